@@ -1,0 +1,5 @@
+pub mod Boards
+pub mod Caps
+pub mod Cuts
+pub mod Fields
+pub mod Parsed

@@ -1,0 +1,5 @@
+pub mod Commands
+pub mod Faults
+pub mod Numbers
+pub mod Pieces
+pub mod Words
