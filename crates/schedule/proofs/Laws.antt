@@ -1,5 +1,5 @@
 -- Both kinds of schedule keep the law, and go round.
-use mathlib.Core.Path.{_≡_, refl, sym, ap, _∙_, fun-ext}
+use mathlib.Core.Path.{_≡_, refl, sym, ap, subst, _∙_, fun-ext}
 use mathlib.Core.List.{List}
 use Prim.Native.Nat.{ℕ, _+_, _%_, _<_, _≤_}
 use native.Mathlib.Nat.{mod-lt}
@@ -8,7 +8,11 @@ use lib.ListN.{length, getD, take}
 use Rattle.std.proofs.shelf.Lists.{getD-take, length-take-le}
 use Rattle.schedule.specs.Rows.{Lawful, later, inTurn, repeated}
 use Rattle.schedule.specs.Lists.{Accepted}
+use Rattle.schedule.specs.Meanings.{roundCount, roundOwners, listCount, listSpan, listOwners}
+use Rattle.schedule.specs.declared.round_robin.RoundRobin.{RoundRobin}
+use Rattle.schedule.specs.declared.slot_list.SlotList.{SlotList}
 use Rattle.schedule.proofs.Accepted.{some-board, few-boards, few-entries, some-entry, entry-below, board-named}
+use Rattle.schedule.proofs.Refusals.{kept-accepted}
 use Rattle.schedule.proofs.Rings.{reaches, stays, steps}
 
 -- The row that reads a list from a place on, round and round.
@@ -57,3 +61,15 @@ starts xs kept e = ap (λ l. around l (length xs) 0) e ∙ around-start (λ k. g
 -- An entry read in its place.
 pub reads : (xs : List ℕ) (p place : ℕ) → place < p → getD xs place 0 ≡ around (take p xs) p place 0
 reads xs p place h = sym (getD-take p xs place 0 h) ∙ ap (λ i. getD (take p xs) i 0) (stays p place h)
+
+pub round-robin-lawful : (s : RoundRobin) → Lawful (roundCount s) (roundCount s) (roundOwners s)
+unfolding roundOwners
+round-robin-lawful s = round-lawful (s .boards) (s .place) (s .few) (s .within)
+
+pub slot-list-lawful : (s : SlotList) → Lawful (listCount s) (listSpan s) (listOwners s)
+unfolding listOwners
+slot-list-lawful s =
+    let xs = take (s .len) (s .entries) in
+    let long : length xs ≡ s .len = length-take-le (s .len) (s .entries) (omega arith) in
+    let Law : ℕ → Type 0 = λ p. Lawful (s .boards) p (around xs p (s .place)) in
+    subst Law long (list-lawful (s .boards) (s .place) xs (kept-accepted (s .boards) xs (s .accepted)))

@@ -1,0 +1,12 @@
+use mathlib.Core.Path.{sym, ap, _∙_}
+use mathlib.Core.List.{_++_, append-assoc}
+use Rattle.std.specs.Of.String.{string-bytes}
+use Rattle.listing.specs.Replays.{coming, piece}
+use Rattle.listing.proofs.replay.Replay.finish.Needs as need
+
+pub lines-again : need.lines-again
+lines-again c =
+    let r = c .lines .self in
+    let r′ = c .step .last .self in
+    let out = string-bytes (c .lines .out) in
+    ap (λ t. t ++ coming r′) (c .in-Continue-step .ensures tt .text) ∙ append-assoc out (piece r) (coming r′) ∙ sym (ap (λ t. out ++ t) (c .in-Continue-step .ensures tt .rest)) ∙ c .lines .inv

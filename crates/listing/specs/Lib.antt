@@ -1,0 +1,5 @@
+pub mod Benches
+pub mod Bus
+pub mod Lines
+pub mod Listing
+pub mod Replays
