@@ -62,15 +62,12 @@ stopped-onward n rest OutOfMemory e s s′ t t′ t″ h w = absurd w
 
 -- What a replay is to print, by how far it is.
 pub reading-coming : (r : Replay) → r .progress ≡ Reading → coming r ≡ listed (r .line) (benchOf (r .bench)) (pieces 10 (now (r .rest)))
-unfolding coming
 reading-coming r e = ap (λ p. comingAt p (r .line) (benchOf (r .bench)) (now (r .rest))) e
 
 pub reading-piece : (r : Replay) → r .progress ≡ Reading → piece r ≡ firstPrint (r .line) (benchOf (r .bench)) (pieces 10 (now (r .rest)))
-unfolding piece
 reading-piece r e = ap (λ p. pieceAt p (r .line) (benchOf (r .bench)) (now (r .rest))) e
 
 pub over-coming : (r : Replay) → r .progress ≡ Over → coming r ≡ []
-unfolding coming
 over-coming r e = ap (λ p. comingAt p (r .line) (benchOf (r .bench)) (now (r .rest))) e
 
 -- The last piece, and a line.

@@ -113,5 +113,5 @@ listed n s (p ∷ []) = ending n (s .stage) p
 listed n s (p ∷ q ∷ ps) = linePrint n s (lineOf s p) ++ onward s (lineOf s p) (λ t. listed (n + 1) t (q ∷ ps))
 
 -- The listing of a trace, which has at most 32,768 bytes.
-unfoldable pub listing : List ℕ → List ℕ
+abbrev pub listing : List ℕ → List ℕ
 listing input = cond (ltb 32768 (length input)) tooLong (listed 1 start (pieces 10 input))

@@ -28,11 +28,11 @@ pieceAt Reading n s input = firstPrint n s (pieces 10 input)
 pieceAt Over n s input = []
 
 -- All that is still to print.
-unfoldable pub coming : Replay → List ℕ
+abbrev pub coming : Replay → List ℕ
 coming r = comingAt (r .progress) (r .line) (benchOf (r .bench)) (now (r .rest))
 
 -- What the next line of the trace prints.
-unfoldable pub piece : Replay → List ℕ
+abbrev pub piece : Replay → List ℕ
 piece r = pieceAt (r .progress) (r .line) (benchOf (r .bench)) (now (r .rest))
 
 -- How many bytes of the trace are still to read.

@@ -38,7 +38,7 @@ pub struct Bench {
 }
 
 impl Bench {
-    pub fn new() -> Bench
+    pub(crate) fn new() -> Bench
         ensures { λ r. ⌜ benchOf r ≡ start ⌝ }
     {
         Bench {

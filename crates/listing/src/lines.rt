@@ -22,14 +22,14 @@ fn stored(written: fmt::Result) -> Result<(), AllocError>
 }
 
 // A slot in which nothing is done.
-pub fn write_idle(out: &mut String, slot: u64, owner: usize) -> Result<(), AllocError>
+pub(crate) fn write_idle(out: &mut String, slot: u64, owner: usize) -> Result<(), AllocError>
     ensures { λ r. ⌜ made r (λ _. string-bytes (now (out .exit)) ≡ string-bytes (now (out .entry)) ++ idleLine slot owner) ⌝ }
 {
     stored(write!(out, "{slot} {owner} idle -\n"))
 }
 
 // The fault of a line, with the refusal where a schedule is refused.
-pub fn write_fault(out: &mut String, line: u32, fault: LineFault) -> Result<(), AllocError>
+pub(crate) fn write_fault(out: &mut String, line: u32, fault: LineFault) -> Result<(), AllocError>
     ensures { λ r. ⌜ made r (λ _. string-bytes (now (out .exit)) ≡ string-bytes (now (out .entry)) ++ faultLine line fault) ⌝ }
 {
     let cause = fault.cause();
@@ -43,7 +43,7 @@ pub fn write_fault(out: &mut String, line: u32, fault: LineFault) -> Result<(), 
 }
 
 // A trace that is too long to be read.
-pub fn write_too_long(out: &mut String) -> Result<(), AllocError>
+pub(crate) fn write_too_long(out: &mut String) -> Result<(), AllocError>
     ensures { λ r. ⌜ made r (λ _. string-bytes (now (out .exit)) ≡ string-bytes (now (out .entry)) ++ tooLong) ⌝ }
 {
     out.push_str("fault 0 7\n")

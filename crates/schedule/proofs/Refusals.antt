@@ -92,7 +92,6 @@ module _ (n : ℕ) (xs : List ℕ) where
   Verdict o = BySome o (Accepted n xs) (FirstFit n xs)
 
   verdict : Verdict (listRefusal n xs)
-  unfolding listRefusal
   verdict =
       cond-both (fits n xs BoardCount) _ _ Verdict (first-fit BoardCount none-1) (λ a.
       let few = none-2 a in

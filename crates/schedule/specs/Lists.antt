@@ -12,9 +12,12 @@ use Rattle.schedule.specs.declared.refusal.ScheduleRefusal.{ScheduleRefusal}
 use Rattle.schedule.specs.declared.refusal.ScheduleRefusal.the-variants.{BoardCount, ListLength, ForeignBoard, MissingBoard}
 use Rattle.schedule.specs.Numbers.{number}
 
+abbrev pub BadCount : ℕ → Type 0
+BadCount n = (n ≡ 0) ⊎ (16 < n)
+
 -- What each refusal says of a board count and a list.
 abbrev pub Fits : ℕ → List ℕ → ScheduleRefusal → Type 0
-Fits n xs BoardCount = (n ≡ 0) ⊎ (16 < n)
+Fits n xs BoardCount = BadCount n
 Fits n xs ListLength = (length xs ≡ 0) ⊎ (64 < length xs)
 Fits n xs ForeignBoard = (k : ℕ) × (k < length xs) × (n ≤ getD xs k 0)
 Fits n xs MissingBoard = (b : ℕ) × (b < n) × ((k : ℕ) → k < length xs → getD xs k 0 ≡ b → ⊥)
@@ -55,9 +58,9 @@ firstOf test [] = None
 firstOf test (x ∷ xs) = cond (test x) (Some x) (firstOf test xs)
 
 -- The refusal of a slot list for n boards, or none.
-unfoldable pub listRefusal : ℕ → List ℕ → Option ScheduleRefusal
+abbrev pub listRefusal : ℕ → List ℕ → Option ScheduleRefusal
 listRefusal n xs = firstOf (fits n xs) (BoardCount ∷ ListLength ∷ ForeignBoard ∷ MissingBoard ∷ [])
 
 -- The refusal of a round robin of n boards, or none.
-unfoldable pub countRefusal : ℕ → Option ScheduleRefusal
+abbrev pub countRefusal : ℕ → Option ScheduleRefusal
 countRefusal n = firstOf (fits n []) (BoardCount ∷ [])

@@ -5,7 +5,7 @@ ghost use Prim.Native.Nat.{_+_, _-_, _*_, _^_, _≤_, min};
 ghost use Rattle.trace.specs.Numbers.{capped, digitsOn, isDigit, number};
 
 // What a number above every field is read as.
-pub const CAP: u128 = 18446744073709551616;
+pub(crate) const CAP: u128 = 18446744073709551616;
 
 fn is_digit(byte: u8) -> bool
     ensures { λ r. ⌜ r ≡ isDigit byte ⌝ }
@@ -39,7 +39,7 @@ fn read_digits(n: u128, s: &[u8]) -> Option<u128>
 }
 
 // The number that `s` writes, at most `CAP`.
-pub fn read_number(s: &[u8]) -> Option<u128>
+pub(crate) fn read_number(s: &[u8]) -> Option<u128>
     ensures { λ r. ⌜ r ≡ capped (number (now (s .entry))) ⌝ }
 {
     match s {

@@ -23,7 +23,7 @@ pub enum MemoryKind {
 
 // What a word is: a number that a field may take, a larger one, the letter of a memory, or none of these.
 #[derive(Clone, Copy, PartialEq, Eq, Debug)]
-pub enum Word {
+pub(crate) enum Word {
     Other,
     Number(u64),
     Large,
@@ -32,13 +32,13 @@ pub enum Word {
 
 // A field of a line: its numbers go from `low` to `high`.
 #[derive(Clone, Copy)]
-pub struct Field {
-    pub low: u64,
-    pub high: u64,
+pub(crate) struct Field {
+    pub(crate) low: u64,
+    pub(crate) high: u64,
 }
 
 // One word by itself.
-pub fn read_word(word: &[u8]) -> Word
+pub(crate) fn read_word(word: &[u8]) -> Word
     ensures { λ r. ⌜ r ≡ wordOf (now (word .entry)) ⌝ }
 {
     match word {
@@ -59,7 +59,7 @@ pub fn read_word(word: &[u8]) -> Word
 }
 
 // The words of `s`: one more than it has spaces.
-pub fn read_words(heap: Global, s: &[u8]) -> Result<Vec<Word>, AllocError>
+pub(crate) fn read_words(heap: Global, s: &[u8]) -> Result<Vec<Word>, AllocError>
     ensures { λ r. ⌜ made r (λ v. vec-items v ≡ map wordOf (words (now (s .entry)))) ⌝ }
 {
     let mut found = Vec::new(heap);
@@ -83,7 +83,7 @@ fn is_number(word: Word) -> bool
     }
 }
 
-pub fn all_numbers(words: &[Word]) -> bool
+pub(crate) fn all_numbers(words: &[Word]) -> bool
     ensures { λ r. ⌜ r ≡ allNumbers (now (words .entry)) ⌝ }
 {
     match words {
@@ -94,7 +94,7 @@ pub fn all_numbers(words: &[Word]) -> bool
 
 impl Field {
     // The number of a word that lies in the field.
-    pub fn take(self, word: Word) -> Result<u64, LineFault>
+    pub(crate) fn take(self, word: Word) -> Result<u64, LineFault>
         ensures value { λ r. ⌜ r ≡ inField self word ⌝ }
         ensures bound { λ r. ⌜ made r (λ n. n ≤ self .high) ⌝ }
     {
@@ -112,7 +112,7 @@ impl Field {
 }
 
 // As many numbers as there are fields, each in its own.
-pub fn read_fields<const N: usize>(words: &[Word], fields: [Field; N]) -> Result<[u64; N], LineFault>
+pub(crate) fn read_fields<const N: usize>(words: &[Word], fields: [Field; N]) -> Result<[u64; N], LineFault>
     ensures value { λ r. ⌜ r ≡ fieldsOf (fields .entry) (now (words .entry)) ⌝ }
     ensures bound { λ r. ⌜ made r (λ ns. (k : ℕ) → k < N → getD ns k 0 ≤ getD (fields .entry) k (record { low = 0; high = 0 }) .high) ⌝ }
 {

@@ -24,7 +24,6 @@ returns-in-rest c =
     }
 
 pub returns-in-Ok : need.returns-in-Ok
-unfolding coming
 returns-in-Ok c =
     let r = c .args .self .now in
     let t = string-bytes (c .args .out .now) in
