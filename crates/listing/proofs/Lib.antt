@@ -1,3 +1,4 @@
 pub mod Replays
 pub mod Slots
+pub mod Stays
 pub mod Writes

@@ -1,7 +1,8 @@
 -- The listing of a trace.
 use mathlib.Core.Bool.{Bool, true, false, cond}
 use mathlib.Core.List.{List, [], _∷_, _++_}
-use Prim.Native.Nat.{ℕ, zero, suc, _+_}
+use mathlib.Core.Path.{_≡_}
+use Prim.Native.Nat.{ℕ, zero, suc, _+_, _≤_}
 use lib.Dec.{eqb, ltb}
 use lib.ListN.{length}
 use Rattle.std.specs.Options.{mapped}
@@ -115,3 +116,7 @@ listed n s (p ∷ q ∷ ps) = linePrint n s (lineOf s p) ++ onward s (lineOf s p
 -- The listing of a trace, which has at most 32,768 bytes.
 abbrev pub listing : List ℕ → List ℕ
 listing input = cond (ltb 32768 (length input)) tooLong (listed 1 start (pieces 10 input))
+
+-- The law of listings: what whole lines have listed stays, whatever follows them.
+abbrev pub Stays : (trace text : List ℕ) → Type 0
+Stays trace text = (lines more : List ℕ) → trace ≡ lines ++ 10 ∷ [] → length (trace ++ more) ≤ 32768 → (rest : List ℕ) × (listing (trace ++ more) ≡ text ++ rest)

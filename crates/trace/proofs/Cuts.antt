@@ -1,5 +1,5 @@
 -- Words, one cut at a time.
-use mathlib.Core.Path.{_≡_, refl, sym, ap, _∙_}
+use mathlib.Core.Path.{_≡_, refl, sym, ap, subst, _∙_}
 use mathlib.Core.Bool.{Bool, true, false, cond}
 use mathlib.Core.List.{List, [], _∷_, _++_, map, append-assoc}
 use Prim.Native.Nat.{ℕ, zero, suc, _+_, _-_, _<_, _≤_}
@@ -9,11 +9,12 @@ use lib.ListN.{length, getD, take, drop, length-drop}
 use lib.Seq.{take-all}
 use borrow.Author.Tests.{eq-eqb, ne-eqb}
 use lib.Dec.{eqb}
+use Rattle.std.proofs.shelf.Tests.{eqb-false, eqb-true}
 use Rattle.std.specs.declared.option.Option.{Option}
 use Rattle.std.specs.declared.option.Option.the-variants.{Some, None}
 use Rattle.trace.specs.declared.word.Word.{Word}
 use Rattle.trace.specs.Words.{wordOf, words}
-use Rattle.trace.specs.Pieces.{before, after, onFirst, pieces}
+use Rattle.trace.specs.Pieces.{CutAt, rejoined, before, after, onFirst, pieces}
 
 abbrev pub piecesAfter : ℕ → Option (List ℕ) → List (List ℕ)
 piecesAfter b None = []
@@ -58,3 +59,28 @@ one-more {total} {done′} {w} done rest more inv ew ea ed =
 pub no-more : {total done′ : List Word} {w : Word} (done : List Word) (rest : List ℕ) → done ++ map wordOf (words rest) ≡ total → w ≡ wordOf (before 32 rest) → after 32 rest ≡ None → done′ ≡ done ++ (w ∷ []) → done′ ≡ total
 no-more {total} {done′} {w} done rest inv ew ea ed =
     ed ∙ ap (λ l. done ++ l) (ap (λ v. v ∷ []) ew ∙ sym (ap (map wordOf) (pieces-cut 32 rest ∙ ap (λ o. before 32 rest ∷ piecesAfter 32 o) ea))) ∙ inv
+
+-- what a cut gives obeys its law
+pub before-clean : (b : ℕ) (s : List ℕ) (k : ℕ) → k < length (before b s) → getD (before b s) k 0 ≡ b → ⊥
+before-clean b [] k h e = omega arith
+before-clean b (c ∷ cs) k h e = by (eqb c b) refl (before-clean b cs) k h e
+  where
+    by : (t : Bool) → eqb c b ≡ t → ((k : ℕ) → k < length (before b cs) → getD (before b cs) k 0 ≡ b → ⊥) → (k : ℕ) → k < length (cond t [] (c ∷ before b cs)) → getD (cond t [] (c ∷ before b cs)) k 0 ≡ b → ⊥
+    by true is rest k h e = omega arith
+    by false is rest zero h e = eqb-false c b is e
+    by false is rest (suc k) h e = rest k (omega arith) e
+
+pub before-after : (b : ℕ) (s : List ℕ) → s ≡ rejoined b (before b s) (after b s)
+before-after b [] = refl
+before-after b (c ∷ cs) = by (eqb c b) refl (before-after b cs)
+  where
+    onto : (o : Option (List ℕ)) (w : List ℕ) → c ∷ rejoined b w o ≡ rejoined b (c ∷ w) o
+    onto None w = refl
+    onto (Some r) w = refl
+    by : (t : Bool) → eqb c b ≡ t → cs ≡ rejoined b (before b cs) (after b cs) → c ∷ cs ≡ rejoined b (cond t [] (c ∷ before b cs)) (cond t (Some cs) (after b cs))
+    by true is h = ap (λ d. d ∷ cs) (eqb-true c b is)
+    by false is h = ap (λ l. c ∷ l) h ∙ onto (after b cs) (before b cs)
+
+pub cut-law : (b : ℕ) (s first : List ℕ) (rest : Option (List ℕ)) → first ≡ before b s → rest ≡ after b s → CutAt b s first rest
+cut-law b s first rest ef er =
+    subst (λ f. CutAt b s f rest) (sym ef) (subst (λ r. CutAt b s (before b s) r) (sym er) record { clean = before-clean b s; whole = before-after b s })

@@ -1,10 +1,17 @@
 -- Numbers in decimal with no leading zero.
 use mathlib.Core.Bool.{Bool, cond, _&&_}
 use mathlib.Core.List.{List, [], _∷_}
-use Prim.Native.Nat.{ℕ, _+_, _-_, _*_, _^_, min}
+use mathlib.Core.Path.{_≡_}
+use Prim.Native.Nat.{ℕ, _+_, _-_, _*_, _^_, _<_, min}
 use lib.Dec.{eqb, leb}
+use Rattle.std.specs.Written.{decimal}
 use Rattle.std.specs.declared.option.Option.{Option}
 use Rattle.std.specs.declared.option.Option.the-variants.{Some, None}
+
+-- The law of numbers: a text is read as n, below 2 ^ 64, just where it is n in decimal.
+pub record ReadsDecimal (s : List ℕ) (r : Option ℕ) : Type 0 where
+  pub reads : (n : ℕ) → n < 2 ^ 64 → s ≡ decimal n → r ≡ Some n
+  pub writes : (n : ℕ) → n < 2 ^ 64 → r ≡ Some n → s ≡ decimal n
 
 abbrev pub isDigit : ℕ → Bool
 isDigit c = leb 48 c && leb c 57
@@ -14,7 +21,7 @@ abbrev pub digitsOn : ℕ → List ℕ → Option ℕ
 digitsOn n [] = Some n
 digitsOn n (c ∷ cs) = cond (isDigit c) (digitsOn (n * 10 + (c - 48)) cs) None
 
-abbrev afterZero : List ℕ → Option ℕ
+abbrev pub afterZero : List ℕ → Option ℕ
 afterZero [] = Some 0
 afterZero (c ∷ cs) = None
 

@@ -2,7 +2,7 @@
 ghost use mathlib.Core.Bool.{true};
 ghost use mathlib.Core.Path.{_≡_};
 ghost use Prim.Native.Nat.{_+_, _-_, _*_, _^_, _≤_, min};
-ghost use Rattle.trace.specs.Numbers.{capped, digitsOn, isDigit, number};
+ghost use Rattle.trace.specs.Numbers.{ReadsDecimal, capped, digitsOn, isDigit, number};
 
 // What a number above every field is read as.
 pub(crate) const CAP: u128 = 18446744073709551616;
@@ -40,6 +40,13 @@ fn read_digits(n: u128, s: &[u8]) -> Option<u128>
 
 // The number that `s` writes, at most `CAP`.
 pub(crate) fn read_number(s: &[u8]) -> Option<u128>
+    ensures value { λ r. ⌜ r ≡ capped (number (now (s .entry))) ⌝ }
+    ensures decimal { λ r. ⌜ ReadsDecimal (now (s .entry)) r ⌝ }
+{
+    without_leading_zero(s)
+}
+
+fn without_leading_zero(s: &[u8]) -> Option<u128>
     ensures { λ r. ⌜ r ≡ capped (number (now (s .entry))) ⌝ }
 {
     match s {

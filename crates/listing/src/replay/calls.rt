@@ -6,7 +6,7 @@ ghost use Prim.Native.Nat.{_<_, _≤_};
 ghost use Rattle.std.specs.Of.String.{string-bytes};
 ghost use Rattle.std.specs.Vec.{made};
 ghost use Rattle.listing.specs.Benches.{benchOf, Stopped};
-ghost use Rattle.listing.specs.Listing.{ending, listing};
+ghost use Rattle.listing.specs.Listing.{Stays, ending, listing};
 ghost use Rattle.listing.specs.declared.replay.Progress.the-variants.{Over, Reading};
 ghost use Rattle.listing.specs.Replays.{coming, piece, unread};
 use crate::bench::Bench;
@@ -123,7 +123,9 @@ impl<'a> Replay<'a> {
 
 // The whole listing of a trace.
 pub fn list_trace(heap: Global, trace: &[u8]) -> Result<String, AllocError>
-    ensures { λ r. ⌜ made r (λ s. string-bytes s ≡ listing (now (trace .entry))) ⌝ }
+    ensures text { λ r. ⌜ made r (λ s. string-bytes s ≡ listing (now (trace .entry))) ⌝ }
+    ensures law { λ r. ⌜ made r (λ s. Stays (now (trace .entry)) (string-bytes s)) ⌝ }
 {
-    Replay::new(trace).finish(heap)
+    let text = Replay::new(trace).finish(heap)?;
+    Ok(text)
 }

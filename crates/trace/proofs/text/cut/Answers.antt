@@ -1,15 +1,10 @@
-use mathlib.Core.Path.{sym}
-use native.Mathlib.Omega.{arith}
-use borrow.Author.Needs.{needs}
-use Rattle.trace.proofs.Cuts.{cut-here, cut-none}
+use mathlib.Core.Path.{_≡_, sym}
+use denote.Ref.{now}
+use Rattle.std.specs.Options.{mapped}
+use Rattle.trace.proofs.Cuts.{cut-law}
 use Rattle.trace.proofs.text.cut.Needs as need
-
-pub returns-then-b-end : need.returns-then-b-end
-returns-then-b-end c =
-    let at = cut-here (c .args .end) (c .args .s .now) (c .loop-i .i) (c .loop-i-test .taken) (c .loop-i .inv) (c .if-b-end .taken) in
-    record { first = at .0; rest = at .1; less = search needs }
 
 pub returns : need.returns
 returns c =
-    let none = cut-none (c .args .end) (c .args .s .now) (λ k h. c .loop-i .inv k (omega arith)) in
-    record { first = sym (none .0); rest = sym (none .1); less = tt }
+    let h = c .halves .ensures in
+    record { first = h .first; rest = h .rest; law = cut-law (c .args .end) (c .args .s .now) (now (c .halves .result .0)) (mapped now (c .halves .result .1)) (h .first) (h .rest); less = h .less }
