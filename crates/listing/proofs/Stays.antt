@@ -26,8 +26,9 @@ pieces-join b (c ∷ cs) y e = by (eqb c b) (pieces-join b cs y e) (pieces-cut b
   where
     first-on : (xs : List (List ℕ)) (p : List ℕ) (ps : List (List ℕ)) → xs ≡ p ∷ ps → onFirst c (xs ++ pieces b y) ≡ onFirst c xs ++ pieces b y
     first-on xs p ps e = ap (λ l. onFirst c (l ++ pieces b y)) e ∙ sym (ap (λ l. onFirst c l ++ pieces b y) e)
+
     by : (t : Bool) → pieces b (cs ++ b ∷ y) ≡ pieces b cs ++ pieces b y → pieces b cs ≡ before b cs ∷ piecesAfter b (after b cs)
-      → cond t ([] ∷ pieces b (cs ++ b ∷ y)) (onFirst c (pieces b (cs ++ b ∷ y))) ≡ cond t ([] ∷ pieces b cs) (onFirst c (pieces b cs)) ++ pieces b y
+        → cond t ([] ∷ pieces b (cs ++ b ∷ y)) (onFirst c (pieces b (cs ++ b ∷ y))) ≡ cond t ([] ∷ pieces b cs) (onFirst c (pieces b cs)) ++ pieces b y
     by true h cut = ap (λ l. [] ∷ l) h
     by false h cut = ap (onFirst c) h ∙ first-on (pieces b cs) (before b cs) (piecesAfter b (after b cs)) cut
 
@@ -51,7 +52,7 @@ lines-stay lines more =
     let w = listed-more 1 start (before 10 lines) (piecesAfter 10 (after 10 lines)) (before 10 more) (piecesAfter 10 (after 10 more)) in
     let short : pieces 10 (lines ++ 10 ∷ []) ≡ (before 10 lines ∷ piecesAfter 10 (after 10 lines)) ++ [] ∷ [] = pieces-join 10 lines [] refl ∙ ap (λ l. l ++ [] ∷ []) (pieces-cut 10 lines) in
     let long : pieces 10 (lines ++ 10 ∷ more) ≡ (before 10 lines ∷ piecesAfter 10 (after 10 lines)) ++ before 10 more ∷ piecesAfter 10 (after 10 more) =
-      pieces-join 10 lines more refl ∙ (λ i. pieces-cut 10 lines i ++ pieces-cut 10 more i) in
+    pieces-join 10 lines more refl ∙ (λ i. pieces-cut 10 lines i ++ pieces-cut 10 more i) in
     (w .0, ap (listed 1 start) long ∙ w .1 ∙ ap (λ l. listed 1 start l ++ w .0) (sym short))
 
 few-listed : (s : List ℕ) → length s ≤ 32768 → listing s ≡ listed 1 start (pieces 10 s)
@@ -61,7 +62,8 @@ pub stays : (trace text : List ℕ) → text ≡ listing trace → Stays trace t
 stays trace text e lines more is few =
     let w = lines-stay lines more in
     let joined : trace ++ more ≡ lines ++ 10 ∷ more = ap (λ t. t ++ more) is ∙ append-assoc lines (10 ∷ []) more in
-    let small : length trace ≤ 32768 = omega (arith, length-append trace more) in
-    (w .0,
+    let small : length trace ≤ 32768 = omega (arith, length-append trace more) in (
+      w .0,
       few-listed (trace ++ more) few ∙ ap (λ t. listed 1 start (pieces 10 t)) joined ∙ w .1
-      ∙ ap (λ t. listed 1 start (pieces 10 t) ++ w .0) (sym is) ∙ ap (λ t. t ++ w .0) (sym (few-listed trace small)) ∙ ap (λ t. t ++ w .0) (sym e))
+          ∙ ap (λ t. listed 1 start (pieces 10 t) ++ w .0) (sym is) ∙ ap (λ t. t ++ w .0) (sym (few-listed trace small)) ∙ ap (λ t. t ++ w .0) (sym e),
+    )

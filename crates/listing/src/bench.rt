@@ -116,14 +116,23 @@ impl Bench {
         ensures bound { λ _. ⌜ now (self .exit) .slot ≤ now (self .entry) .slot + 65535 ⌝ }
     {
         match command {
-            Command::Fabric { boards, lines: _, kind: _ } => Ok(self.open(*boards)?),
+            Command::Fabric {
+                boards,
+                lines: _,
+                kind: _,
+            } => Ok(self.open(*boards)?),
             Command::Owners(entries) => Ok(self.relist(entries.as_slice())?),
             Command::Slots(count) => Ok(self.run(*count, out)?),
         }
     }
 
     // Carries out a line, without its line end, and adds what it prints to the text.
-    pub(crate) fn obey(&mut self, heap: Global, line: &[u8], out: &mut String) -> Result<(), TraceFault>
+    pub(crate) fn obey(
+        &mut self,
+        heap: Global,
+        line: &[u8],
+        out: &mut String,
+    ) -> Result<(), TraceFault>
         requires { ⌜ now self .slot + 65535 < 2 ^ 64 ⌝ }
         ensures obeys { λ r. ⌜ Obeyed r (lineOf (benchOf (now (self .entry))) (now (line .entry))) (benchOf (now (self .entry))) (benchOf (now (self .exit))) (string-bytes (now (out .entry))) (string-bytes (now (out .exit))) ⌝ }
         ensures bound { λ _. ⌜ now (self .exit) .slot ≤ now (self .entry) .slot + 65535 ⌝ }

@@ -30,6 +30,6 @@ module _ (n : ℕ) (xs : List ℕ) (good : Accepted n xs) where
   pub board-named : (b : ℕ) → b < n → (k : ℕ) × (k < length xs) × (getD xs k 0 ≡ b)
   board-named b h =
       elim (cases-bool (names b xs)) [
-        inl t ↦ names-decides b xs .0 t
-      | inr f ↦ absurd (good MissingBoard (b, h, λ k lt e. not-from-decides (names b xs) (names-decides b xs) f (k, lt, e)))
+        | inl t ↦ names-decides b xs .0 t
+        | inr f ↦ absurd (good MissingBoard (b, h, λ k lt e. not-from-decides (names b xs) (names-decides b xs) f (k, lt, e)))
       ]

@@ -26,9 +26,9 @@ round-lawful n place few h = record {
   short = omega arith;
   below = λ k. mod-lt (place + k) (omega arith);
   fair = λ k b lt.
-    let w = reaches n (place + k) b lt in
-    let e : place + (k + w .0) ≡ (place + k) + w .0 = omega arith in
-    (w .0, w .1, ap (λ m. m % n) e ∙ w .2);
+      let w = reaches n (place + k) b lt in
+      let e : place + (k + w .0) ≡ (place + k) + w .0 = omega arith in
+      (w .0, w .1, ap (λ m. m % n) e ∙ w .2);
 }
 
 pub list-lawful : (n place : ℕ) (xs : List ℕ) → Accepted n xs → Lawful n (length xs) (around xs (length xs) place)
@@ -38,10 +38,10 @@ list-lawful n place xs good = record {
   short = few-entries n xs good;
   below = λ k. entry-below n xs good ((place + k) % length xs) (mod-lt (place + k) (some-entry n xs good));
   fair = λ k b lt.
-    let at = board-named n xs good b lt in
-    let w = reaches (length xs) (place + k) (at .0) (at .1) in
-    let e : place + (k + w .0) ≡ (place + k) + w .0 = omega arith in
-    (w .0, w .1, ap (λ m. getD xs (m % length xs) 0) e ∙ ap (λ m. getD xs m 0) (w .2) ∙ at .2);
+      let at = board-named n xs good b lt in
+      let w = reaches (length xs) (place + k) (at .0) (at .1) in
+      let e : place + (k + w .0) ≡ (place + k) + w .0 = omega arith in
+      (w .0, w .1, ap (λ m. getD xs (m % length xs) 0) e ∙ ap (λ m. getD xs m 0) (w .2) ∙ at .2);
 }
 
 -- One step on, the row is the rest of the row.

@@ -36,7 +36,7 @@ names-decides b xs = at-zero (λ x. x ≡ b) _ xs (decides-by-or (λ x. eqb x b)
 pub missing-decides : (n : ℕ) (xs : List ℕ) → Decides (missing n xs) (Fits n xs MissingBoard)
 missing-decides n xs =
     decides-below-or (λ b. not (names b xs)) (λ b. (k : ℕ) → k < length xs → getD xs k 0 ≡ b → ⊥) (λ m. missing m xs)
-      (λ b. decides-like (not (names b xs)) (λ none k h e. none (k, h, e)) (λ none w. none (w .0) (w .1) (w .2)) (decides-not (names b xs) (names-decides b xs))) refl (λ _. refl) n
+    (λ b. decides-like (not (names b xs)) (λ none k h e. none (k, h, e)) (λ none w. none (w .0) (w .1) (w .2)) (decides-not (names b xs) (names-decides b xs))) refl (λ _. refl) n
 
 pub fits-decides : (n : ℕ) (xs : List ℕ) (e : ScheduleRefusal) → Decides (fits n xs e) (Fits n xs e)
 fits-decides n xs BoardCount = decides-or _ _ (decides-eqb n 0) (decides-ltb 16 n)

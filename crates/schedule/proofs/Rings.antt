@@ -11,12 +11,12 @@ pub reaches : (p s t : ℕ) → t < p → (j : ℕ) × (j < p) × ((s + j) % p �
 reaches p s t h =
     let x : s % p < p = mod-lt s (omega arith) in
     elim (cases-lt t (s % p)) [
-      inr le ↦
-        let e : s % p + (t - s % p) ≡ t = omega arith in
-        (t - s % p, omega arith, sym (mod-add-mod s p (t - s % p)) ∙ ap (λ n. n % p) e ∙ mod-eq-of-lt h)
-    | inl lt ↦
-        let e : s % p + (p + t - s % p) ≡ t + p = omega arith in
-        (p + t - s % p, omega arith, sym (mod-add-mod s p (p + t - s % p)) ∙ ap (λ n. n % p) e ∙ add-mod-right t p ∙ mod-eq-of-lt h)
+      | inr le ↦
+          let e : s % p + (t - s % p) ≡ t = omega arith in
+          (t - s % p, omega arith, sym (mod-add-mod s p (t - s % p)) ∙ ap (λ n. n % p) e ∙ mod-eq-of-lt h)
+      | inl lt ↦
+          let e : s % p + (p + t - s % p) ≡ t + p = omega arith in
+          (p + t - s % p, omega arith, sym (mod-add-mod s p (p + t - s % p)) ∙ ap (λ n. n % p) e ∙ add-mod-right t p ∙ mod-eq-of-lt h)
     ]
 
 pub stays : (p s : ℕ) → s < p → s ≡ (s + 0) % p

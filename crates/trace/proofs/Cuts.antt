@@ -77,6 +77,7 @@ before-after b (c ∷ cs) = by (eqb c b) refl (before-after b cs)
     onto : (o : Option (List ℕ)) (w : List ℕ) → c ∷ rejoined b w o ≡ rejoined b (c ∷ w) o
     onto None w = refl
     onto (Some r) w = refl
+
     by : (t : Bool) → eqb c b ≡ t → cs ≡ rejoined b (before b cs) (after b cs) → c ∷ cs ≡ rejoined b (cond t [] (c ∷ before b cs)) (cond t (Some cs) (after b cs))
     by true is h = ap (λ d. d ∷ cs) (eqb-true c b is)
     by false is h = ap (λ l. c ∷ l) h ∙ onto (after b cs) (before b cs)

@@ -52,6 +52,7 @@ number-writes (c ∷ cs) n small e = by (eqb c 48) refl e
         let z : 0 ≡ n = cc in
         ap (λ d. d ∷ []) is ∙ sym (decimal-digit 0 (lit< tt)) ∙ ap decimal z
     zero-text (d ∷ ds) is h = let z : _≡_ {A = ℕ} 0 1 = cc in absurd (omega arith)
+
     by : (t : Bool) → eqb c 48 ≡ t → cond t (afterZero cs) (digitsOn 0 (c ∷ cs)) ≡ Some n → (c ∷ cs) ≡ decimal n
     by true is h = zero-text cs (eqb-true c 48 is) h
     by false is h =
@@ -66,9 +67,9 @@ number-digits (c ∷ cs) d first some =
 
 pub number-reads : (n : ℕ) → n < 2 ^ 64 → number (decimal n) ≡ Some n
 number-reads n small = elim (cases-eq n 0) [
-    inl e ↦ ap (λ m. number (decimal m)) e ∙ ap number (decimal-digit 0 (lit< tt)) ∙ ap (λ m. Some m) (sym e)
+  | inl e ↦ ap (λ m. number (decimal m)) e ∙ ap number (decimal-digit 0 (lit< tt)) ∙ ap (λ m. Some m) (sym e)
   | inr ne ↦ number-digits (decimal n) (digits-decimal own n small) (first-decimal n (omega arith) small) (decimal-some n small) ∙ ap (λ m. Some m) (value-decimal own n small)
-  ]
+]
 
 -- The cap leaves small numbers alone.
 pub capped-small : (o : Option ℕ) (n : ℕ) → n < 2 ^ 64 → capped o ≡ Some n → o ≡ Some n

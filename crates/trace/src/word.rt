@@ -112,7 +112,10 @@ impl Field {
 }
 
 // As many numbers as there are fields, each in its own.
-pub(crate) fn read_fields<const N: usize>(words: &[Word], fields: [Field; N]) -> Result<[u64; N], LineFault>
+pub(crate) fn read_fields<const N: usize>(
+    words: &[Word],
+    fields: [Field; N],
+) -> Result<[u64; N], LineFault>
     ensures value { λ r. ⌜ r ≡ fieldsOf (fields .entry) (now (words .entry)) ⌝ }
     ensures bound { λ r. ⌜ made r (λ ns. (k : ℕ) → k < N → getD ns k 0 ≤ getD (fields .entry) k (record { low = 0; high = 0 }) .high) ⌝ }
 {

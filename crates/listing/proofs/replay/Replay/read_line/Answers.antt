@@ -37,7 +37,7 @@ returns-in-Ok c =
     record {
       text = line-text r t t′ line (c .pre) (c .cut .ensures .first) more some (obeyed-print (r .line) (lineOf s line) s s′ t t′ obeyed);
       rest = line-rest r t t′ line (c .pre) (c .cut .ensures .first) more some _
-        (obeyed-onward (λ b. listed (r .line + 1) b (pieces 10 more)) (lineOf s line) s s′ t t′ obeyed ∙ sym (ap (λ p. comingAt p (r .line + 1) s′ more) (c .pre)));
+          (obeyed-onward (λ b. listed (r .line + 1) b (pieces 10 more)) (lineOf s line) s s′ t t′ obeyed ∙ sym (ap (λ p. comingAt p (r .line + 1) s′ more) (c .pre)));
       over = search needs;
       less = search needs;
     }
@@ -59,7 +59,7 @@ returns-in-Continue-stop c =
     record {
       text = line-text r t t″ line (c .pre) (c .cut .ensures .first) more some (stopped-print (r .line) (c .in-Err .fault) (lineOf s line) s s′ t t′ t″ obeyed told);
       rest = line-rest r t t″ line (c .pre) (c .cut .ensures .first) more some _
-        (stopped-onward (r .line) (λ b. listed (r .line + 1) b (pieces 10 more)) (c .in-Err .fault) (lineOf s line) s s′ t t′ t″ obeyed told ∙ sym over);
+          (stopped-onward (r .line) (λ b. listed (r .line + 1) b (pieces 10 more)) (c .in-Err .fault) (lineOf s line) s s′ t t′ t″ obeyed told ∙ sym over);
       over = λ _. over;
       less = search needs;
     }

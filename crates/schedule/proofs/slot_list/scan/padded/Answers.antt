@@ -11,8 +11,7 @@ loop-i-again c =
     let all = c .loop-i .all in
     let entries = c .args .entries .now in
     let i = c .loop-i .i in
-    let inside : i < length all = omega arith in
-    (
+    let inside : i < length all = omega arith in (
       length-set all i _ ∙ c .loop-i .inv .0,
       take-more-set all i _ inside ∙ ap (λ t. t ++ getD entries i 0 ∷ []) (c .loop-i .inv .1) ∙ sym (take-more entries i 0 (c .loop-i-test .taken)),
     )

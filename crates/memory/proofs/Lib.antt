@@ -1,0 +1,4 @@
+mod Replacing
+mod FlatWrites
+mod WindowWrites
+pub mod Around

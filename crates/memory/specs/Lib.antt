@@ -1,0 +1,4 @@
+pub mod Interface
+pub mod Flat
+pub mod Window
+pub mod Sound
