@@ -1,0 +1,9 @@
+use mathlib.Core.Path.{_∙_}
+use Rattle.rules.specs.Cells.{snoops}
+use Rattle.fabric.specs.Views.{view}
+use Rattle.fabric.proofs.Views.{put-boards}
+use Rattle.fabric.proofs.core.Core.snoop_all.Needs as need
+
+pub returns : need.returns
+unfolding snoops view
+returns g c = put-boards (g .M·LineMemory) (c .args .self .now) _ _ (c .snoop .ensures)

@@ -1,0 +1,5 @@
+pub mod Queues
+pub mod Records
+pub mod Deeds
+pub mod Boards
+pub mod Views

@@ -1,0 +1,15 @@
+// All that a fabric holds but its schedule.
+use crate::board::Board;
+use crate::queue::Queue;
+
+mod leaves;
+mod made;
+mod parts;
+pub(crate) mod slot;
+
+pub struct Core<M> {
+    boards: [Board; 16],
+    rows: [Queue; 64],
+    keys: [u16; 64],
+    memory: M,
+}

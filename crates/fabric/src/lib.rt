@@ -1,0 +1,6 @@
+// The fabric: boards with private copies of lines, over any slot schedule and any line memory.
+pub mod board;
+mod boards;
+pub mod core;
+pub mod queue;
+mod rows;

@@ -1,0 +1,5 @@
+pub mod Words
+pub mod Boards
+pub mod Cells
+pub mod Slots
+pub mod Calls
