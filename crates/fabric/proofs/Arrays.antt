@@ -24,9 +24,10 @@ pub change-own : {A : Type 0} (f : ℕ → A) (i : ℕ) → change f i (f i) ≡
 change-own f i = fun-ext (λ k. elim (cases-eq k i) [ inl e ↦ rw (e, change-same f i (f i)) refl | inr ne ↦ change-other f i k (f i) ne ])
 
 pub at-set : {A B : Type 0} (v : A → B) (xs : List A) (d : A) (i : ℕ) (y : A) → i < length xs → _≡_ {A = ℕ → B} (λ k. v (getD (set xs i y) k d)) (change (λ k. v (getD xs k d)) i (v y))
-at-set v xs d i y h = fun-ext (λ k. elim (cases-eq k i)
-    [ inl e ↦ rw (e, change-same (λ k. v (getD xs k d)) i (v y)) (ap v (getD-set-same xs i y d h))
-    | inr ne ↦ rw (change-other (λ k. v (getD xs k d)) i k (v y) ne) (ap v (getD-set-other xs i k y d ne)) ])
+at-set v xs d i y h = fun-ext (λ k. elim (cases-eq k i) [
+  | inl e ↦ rw (e, change-same (λ k. v (getD xs k d)) i (v y)) (ap v (getD-set-same xs i y d h))
+  | inr ne ↦ rw (change-other (λ k. v (getD xs k d)) i k (v y) ne) (ap v (getD-set-other xs i k y d ne))
+])
 
 -- The same of an array whose elements are read by their meaning.
 pub seen-set : {A B : Type 0} (v : A → B) (xs : List A) (d : B) (i : ℕ) (y : A) → i < length xs → _≡_ {A = ℕ → B} (λ k. getD (map v (set xs i y)) k d) (change (λ k. getD (map v xs) k d) i (v y))

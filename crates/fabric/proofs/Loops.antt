@@ -24,18 +24,22 @@ module _ (h : ℕ → Board → Board) (bs : ℕ → Board) where
   each-none = fun-ext (λ c. sym (each-out 0 c (omega arith)))
 
   pub each-more : (i : ℕ) (y : Board) → y ≡ h i (bs i) → change (each i h bs) i y ≡ each (i + 1) h bs
-  each-more i y e = fun-ext (λ c. elim (cases-eq c i)
-      [ inl q ↦ rw (q, change-same (each i h bs) i y) (e ∙ sym (each-in (i + 1) i (omega arith)))
-      | inr ne ↦ rw (change-other (each i h bs) i c y ne) (elim (cases-lt c i)
-          [ inl k ↦ each-in i c k ∙ sym (each-in (i + 1) c (omega arith))
-          | inr k ↦ each-out i c k ∙ sym (each-out (i + 1) c (omega arith)) ]) ])
+  each-more i y e = fun-ext (λ c. elim (cases-eq c i) [
+    | inl q ↦ rw (q, change-same (each i h bs) i y) (e ∙ sym (each-in (i + 1) i (omega arith)))
+    | inr ne ↦ rw (change-other (each i h bs) i c y ne) (elim (cases-lt c i) [
+      | inl k ↦ each-in i c k ∙ sym (each-in (i + 1) c (omega arith))
+      | inr k ↦ each-out i c k ∙ sym (each-out (i + 1) c (omega arith))
+    ])
+  ])
 
   pub each-skip : (i : ℕ) → bs i ≡ h i (bs i) → each i h bs ≡ each (i + 1) h bs
-  each-skip i e = fun-ext (λ c. elim (cases-eq c i)
-      [ inl q ↦ rw q (each-out i i (omega arith) ∙ e ∙ sym (each-in (i + 1) i (omega arith)))
-      | inr ne ↦ elim (cases-lt c i)
-          [ inl k ↦ each-in i c k ∙ sym (each-in (i + 1) c (omega arith))
-          | inr k ↦ each-out i c k ∙ sym (each-out (i + 1) c (omega arith)) ] ])
+  each-skip i e = fun-ext (λ c. elim (cases-eq c i) [
+    | inl q ↦ rw q (each-out i i (omega arith) ∙ e ∙ sym (each-in (i + 1) i (omega arith)))
+    | inr ne ↦ elim (cases-lt c i) [
+      | inl k ↦ each-in i c k ∙ sym (each-in (i + 1) c (omega arith))
+      | inr k ↦ each-out i c k ∙ sym (each-out (i + 1) c (omega arith))
+    ]
+  ])
 
   pub each-all : (i n : ℕ) → n ≤ i → i ≤ n → each i h bs ≡ each n h bs
   each-all i n a b = let e : i ≡ n = omega arith in ap (λ k. each k h bs) e
@@ -49,9 +53,10 @@ but-other b g c x ne = cond-false (eqb c b) x (g x) (ne-eqb c b ne)
 -- A test that passes below n, and one that has not yet.
 pub below-found : (n i : ℕ) (test : ℕ → Bool) → i < n → test i ≡ true → below n test ≡ true
 below-found zero i test h t = absurd (omega arith)
-below-found (suc n) i test h t = elim (cases-eq i n)
-    [ inl e ↦ or-left (test n) (below n test) (ap test (sym e) ∙ t)
-    | inr ne ↦ or-right (test n) (below n test) (below-found n i test (omega arith) t) ]
+below-found (suc n) i test h t = elim (cases-eq i n) [
+  | inl e ↦ or-left (test n) (below n test) (ap test (sym e) ∙ t)
+  | inr ne ↦ or-right (test n) (below n test) (below-found n i test (omega arith) t)
+]
 
 pub below-more : (i : ℕ) (test : ℕ → Bool) → below i test ≡ false → test i ≡ false → below (i + 1) test ≡ false
 below-more i test none t = ap (λ n. below n test) (add-one i) ∙ or-from (test i) (below i test) t none

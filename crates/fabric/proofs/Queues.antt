@@ -35,11 +35,13 @@ pushed-take n x xs h k =
 
 -- Every entry is small.
 pub low-set : (xs : List ℕ) (n x : ℕ) → x < 64 → ((i : ℕ) → getD xs i 0 < 64) → (i : ℕ) → getD (set xs n x) i 0 < 64
-low-set xs n x h low i = elim (cases-eq i n)
-    [ inl e ↦ elim (cases-lt n (length xs))
-        [ inl k ↦ rw (e, getD-set-same xs n x 0 k) h
-        | inr k ↦ rw (e, getD-past (set xs n x) n 0 (simp length-set k)) (lit< tt) ]
-    | inr ne ↦ rw (getD-set-other xs n i x 0 ne) (low i) ]
+low-set xs n x h low i = elim (cases-eq i n) [
+  | inl e ↦ elim (cases-lt n (length xs)) [
+    | inl k ↦ rw (e, getD-set-same xs n x 0 k) h
+    | inr k ↦ rw (e, getD-past (set xs n x) n 0 (simp length-set k)) (lit< tt)
+  ]
+  | inr ne ↦ rw (getD-set-other xs n i x 0 ne) (low i)
+]
 
 low-more : (xs ys : List ℕ) → ((i : ℕ) → getD xs i 0 < 64) → ((i : ℕ) → getD ys i 0 < 64) → (i : ℕ) → getD (xs ++ ys) i 0 < 64
 low-more [] ys p q i = q i

@@ -1,14 +1,20 @@
 -- The tables' meaning after one change.
 use mathlib.Core.Path.{_≡_, refl, _∙_, sym, ap}
+use mathlib.Core.Bool.{Bool, true, false, not}
 use mathlib.Core.List.{List, [], map}
 use Prim.Native.Nat.{ℕ, _<_}
 use lib.ListN.{length, getD, set}
 use Rattle.std.proofs.shelf.Lists.{getD-map}
+use Rattle.std.specs.Options.{isSome}
+use Rattle.std.specs.declared.option.Option.{Option}
+use Rattle.std.specs.declared.option.Option.the-variants.{Some, None}
+use Rattle.rules.specs.Calls.{isFree}
 use Rattle.rules.specs.Boards.{blank, change, stored}
 use Rattle.fabric.specs.declared.board.Board.{Board}
 use Rattle.fabric.specs.declared.board.LineRecord.{LineRecord}
+use Rattle.fabric.specs.declared.board.Request.{Request}
 use Rattle.fabric.specs.declared.queue.Queue.{Queue}
-use Rattle.fabric.specs.Boards.{boardOf, boardsOf, noLine, rowsOf, statesOf, wordsOf}
+use Rattle.fabric.specs.Boards.{boardOf, boardsOf, noLine, placeOf, rowsOf, stage, statesOf, wordsOf}
 use Rattle.fabric.specs.Queues.{row}
 use Rattle.fabric.specs.Records.{recorded}
 use Rattle.fabric.proofs.Arrays.{at-set, change-own, seen-set}
@@ -30,7 +36,7 @@ pub set-word : (x : Board) (l : ℕ) (r : LineRecord) → l < length (x .lines) 
 set-word x l r h e =
     set-record x l r h
     ∙ ap (λ f. record { place = boardOf x .place; list = boardOf x .list; last = boardOf x .last; mark = boardOf x .mark; state = f; word = change (wordsOf (x .lines)) l (r .word) })
-        (ap (change (statesOf (x .lines)) l) e ∙ change-own (statesOf (x .lines)) l)
+    (ap (change (statesOf (x .lines)) l) e ∙ change-own (statesOf (x .lines)) l)
 
 pub boards-set : (bs : List Board) (b : ℕ) (x : Board) → b < length bs → boardsOf (set bs b x) ≡ change (boardsOf bs) b (boardOf x)
 unfolding boardsOf
@@ -43,3 +49,14 @@ board-at bs b d h = getD-map boardOf bs b d blank h
 pub row-at : (qs : List Queue) (l : ℕ) (d : Queue) → l < length qs → rowsOf qs l ≡ row (getD qs l d)
 unfolding rowsOf
 row-at qs l d h = getD-map row qs l d [] h
+
+-- A board has a request just where its place is not free.
+staged : (s t : Bool) (q : Request) → true ≡ not (isFree (stage s t q))
+staged true true q = refl
+staged true false q = refl
+staged false true q = refl
+staged false false q = refl
+
+pub request-place : (o : Option Request) → isSome o ≡ not (isFree (placeOf o))
+request-place None = refl
+request-place (Some q) = staged (q .sent) (q .served) q

@@ -51,14 +51,14 @@ module _ {M : Type 0} (m : memory.Ghosts M) (f : Core M) where
   unfolding withBoard view boardAt
   on-board b new d g h e =
       put-boards (set (f .boards) b new) (change (boardsOf (f .boards)) b (g (boardsOf (f .boards) b)))
-        (boards-set (f .boards) b new h ∙ ap (change (boardsOf (f .boards)) b) (e ∙ ap g (sym (board-at (f .boards) b d h))))
+      (boards-set (f .boards) b new h ∙ ap (change (boardsOf (f .boards)) b) (e ∙ ap g (sym (board-at (f .boards) b d h))))
 
   pub put-row : (l : ℕ) (q d : Queue) (g : List ℕ → List ℕ) → l < length (f .rows) → row q ≡ g (row (getD (f .rows) l d))
       → view m record { boards = f .boards; rows = set (f .rows) l q; keys = f .keys; memory = f .memory } ≡ withRow l (g (rowAt (view m f) l)) (view m f)
   unfolding view withRow rowAt rowsOf
   put-row l q d g h e =
       ap (λ rs. record { boards = boardsOf (f .boards); rows = rs; words = m .words (f .memory); keys = keysOf (f .keys); size = m .size (f .memory) })
-        (seen-set row (f .rows) [] l q h ∙ ap (change (rowsOf (f .rows)) l) (e ∙ ap g (sym (row-at (f .rows) l d h))))
+      (seen-set row (f .rows) [] l q h ∙ ap (change (rowsOf (f .rows)) l) (e ∙ ap g (sym (row-at (f .rows) l d h))))
 
   pub put-key : (l k : ℕ) → l < length (f .keys) → view m record { boards = f .boards; rows = f .rows; keys = set (f .keys) l k; memory = f .memory } ≡ withKey l k (view m f)
   unfolding view withKey keysOf

@@ -3,3 +3,4 @@ pub mod Records
 pub mod Deeds
 pub mod Boards
 pub mod Views
+pub mod Worlds

@@ -5,7 +5,9 @@ use crate::queue::Queue;
 mod leaves;
 mod made;
 mod parts;
+mod replies;
 pub(crate) mod slot;
+mod tests;
 
 pub struct Core<M> {
     boards: [Board; 16],

@@ -63,8 +63,14 @@ kept s w = cond (copies s) w 0
 -- An event at a line, with the word that its copy then has. A write-back that begins puts the line at the end of the list.
 abbrev pub lays : ℕ → Event → ℕ → Board → Board
 lays l e w x =
-    record { place = x .place; list = cond (begins (x .state l) e) (pushed (x .list) l) (x .list); last = x .last; mark = x .mark
-           ; state = change (x .state) l (next (x .state l) e); word = change (x .word) l (kept (next (x .state l) e) w) }
+    record {
+      place = x .place;
+      list = cond (begins (x .state l) e) (pushed (x .list) l) (x .list);
+      last = x .last;
+      mark = x .mark;
+      state = change (x .state) l (next (x .state l) e);
+      word = change (x .word) l (kept (next (x .state l) e) w);
+    }
 
 -- An event that brings no word: the copy keeps its own.
 abbrev pub moves : ℕ → Event → Board → Board

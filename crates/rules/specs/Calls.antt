@@ -62,24 +62,32 @@ locked l k s = not (eqb (keyAt s l) 0) && not (eqb k (keyAt s l))
 abbrev pub replaceable : State → Bool
 replaceable x = not (same-state x I || same-state x MIwb)
 
--- The refusals of each call in the order in which it tests them, each with its test.
-abbrev pub tests : ℕ → Cells → Call → List (Refusal × Bool)
-tests n s (load b l) = (NoBoard, leb n b) ∷ (NoLine, leb (sizeOf s) l) ∷ (Busy, not (isFree (boardAt s b .place))) ∷ []
-tests n s (store b l v k) = (NoBoard, leb n b) ∷ (NoLine, leb (sizeOf s) l) ∷ (Busy, not (isFree (boardAt s b .place))) ∷ (KeyDiffers, locked l k s) ∷ []
-tests n s (replace b l) =
-    (NoBoard, leb n b) ∷ (NoLine, leb (sizeOf s) l) ∷ (Busy, not (isFree (boardAt s b .place))) ∷ (NothingToReplace, not (replaceable (boardAt s b .state l)))
-    ∷ (ReplacementWaits, modified (boardAt s b .state l) && isSome (boardAt s b .mark)) ∷ []
-tests n s (guard l o k) = (NoLine, leb (sizeOf s) l) ∷ (KeyTooLarge, ltb 9999 k) ∷ (KeyDiffers, locked l o s) ∷ []
-tests n s (collect b) = (NoBoard, leb n b) ∷ (NoRequest, isFree (boardAt s b .place)) ∷ (NotServed, not (isServed (boardAt s b .place))) ∷ []
-tests n s slot = []
-
 -- The first refusal whose test fits.
 abbrev pub firstFit : List (Refusal × Bool) → Option Refusal
 firstFit [] = None
 firstFit (t ∷ ts) = cond (t .1) (Some (t .0)) (firstFit ts)
 
+abbrev pub orElse : Option Refusal → Option Refusal → Option Refusal
+orElse None f = f
+orElse (Some e) f = Some e
+
+-- What every call by a board at a line tests first: the board, the line, and that the board has no request.
+unfoldable pub vacant : ℕ → ℕ → ℕ → Cells → Option Refusal
+vacant n b l s = firstFit ((NoBoard, leb n b) ∷ (NoLine, leb (sizeOf s) l) ∷ (Busy, not (isFree (boardAt s b .place))) ∷ [])
+
+-- The refusals that each call tests, in this order.
+abbrev pub tested : ℕ → Cells → Call → Option Refusal
+tested n s (load b l) = vacant n b l s
+tested n s (store b l v k) = orElse (vacant n b l s) (firstFit ((KeyDiffers, locked l k s) ∷ []))
+tested n s (replace b l) =
+    orElse (vacant n b l s)
+    (firstFit ((NothingToReplace, not (replaceable (boardAt s b .state l))) ∷ (ReplacementWaits, modified (boardAt s b .state l) && isSome (boardAt s b .mark)) ∷ []))
+tested n s (guard l o k) = firstFit ((NoLine, leb (sizeOf s) l) ∷ (KeyTooLarge, ltb 9999 k) ∷ (KeyDiffers, locked l o s) ∷ [])
+tested n s (collect b) = firstFit ((NoBoard, leb n b) ∷ (NoRequest, isFree (boardAt s b .place)) ∷ (NotServed, not (isServed (boardAt s b .place))) ∷ [])
+tested n s slot = None
+
 abbrev pub refusal : Call → World → Option Refusal
-refusal c w = firstFit (tests (w .count) (w .cells) c)
+refusal c w = tested (w .count) (w .cells) c
 
 -- A load or store that is accepted hits, or waits.
 abbrev pub hits : Kind → State → Bool

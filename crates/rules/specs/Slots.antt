@@ -64,9 +64,10 @@ abbrev pub requests : ℕ → ℕ → Cells → Place → Did
 requests n b s free = idles s
 requests n b s (posted l Load w) = servedToo n b l Load w deed.GetS deed.GetSServed (sendsOut n b SendGetS OtherGetS l Load w s)
 requests n b s (posted l (Store v) w) =
-    elim (mayUpgrade b l s)
-    [ true ↦ record { deed = deed.Upg; line = Some l; after = upgradesTo n b l v w s }
-    | false ↦ servedToo n b l (Store v) w deed.GetM deed.GetMServed (sendsOut n b SendGetM OtherGetM l (Store v) w s) ]
+    elim (mayUpgrade b l s) [
+      | true ↦ record { deed = deed.Upg; line = Some l; after = upgradesTo n b l v w s }
+      | false ↦ servedToo n b l (Store v) w deed.GetM deed.GetMServed (sendsOut n b SendGetM OtherGetM l (Store v) w s)
+    ]
 requests n b s (sent l k w) = record { deed = deed.Data; line = Some l; after = serves b l k w s }
 requests n b s (served l k r w) = idles s
 

@@ -1,9 +1,11 @@
 // What a board does for its request and its write-backs.
+ghost use mathlib.Core.Bool.{not};
 ghost use mathlib.Core.Path.{_≡_};
 ghost use Prim.Native.Nat.{_<_};
 ghost use Rattle.std.specs.Options.{Cases as BySome};
 ghost use Rattle.copystate.specs.States.{holds, upgrades};
 ghost use Rattle.rules.specs.Boards.{ages, free, gets, gives, lifts, placed, posts, replaces, resultOf, sends};
+ghost use Rattle.rules.specs.Calls.{isFree};
 ghost use Rattle.rules.specs.Slots.{firstOf};
 ghost use Rattle.rules.specs.declared.kind.Kind.the-variants.{Store};
 ghost use Rattle.fabric.specs.Boards.{boardOf};
@@ -170,5 +172,11 @@ impl Board {
         ensures { λ _. ⌜ boardOf (now (self .exit)) ≡ placed free (boardOf (now (self .entry))) ⌝ }
     {
         self.request = None;
+    }
+
+    pub(crate) fn has_request(&self) -> bool
+        ensures { λ r. ⌜ r ≡ not (isFree (boardOf (now (self .entry)) .place)) ⌝ }
+    {
+        self.request.is_some()
     }
 }

@@ -33,4 +33,16 @@ impl<M: LineMemory> Core<M> {
             memory,
         }
     }
+
+    pub(crate) fn into_memory(self) -> M
+        ensures { λ r. ⌜ r ≡ self .memory ⌝ }
+    {
+        let Core {
+            boards: _,
+            rows: _,
+            keys: _,
+            memory,
+        } = self;
+        memory
+    }
 }

@@ -80,7 +80,16 @@ impl<M: LineMemory> Core<M> {
     }
 
     // A request that is sent, and served at once where it is due.
-    fn send_and_serve(&mut self, count: usize, board: usize, request: Request, mine: Event, theirs: Event, alone: Deed, too: Deed) -> Did
+    fn send_and_serve(
+        &mut self,
+        count: usize,
+        board: usize,
+        request: Request,
+        mine: Event,
+        theirs: Event,
+        alone: Deed,
+        too: Deed,
+    ) -> Did
         requires { ⌜ (count ≤ 16) × (board < 16) ⌝ }
         ensures after { λ _. ⌜ view M·LineMemory (now (self .exit)) ≡ servedToo count board (request .line) (request .kind) (request .waited) alone too (sendsOut count board mine theirs (request .line) (request .kind) (request .waited) (view M·LineMemory (now (self .entry)))) .after ⌝ }
         ensures deed { λ r. ⌜ r .deed ≡ servedToo count board (request .line) (request .kind) (request .waited) alone too (sendsOut count board mine theirs (request .line) (request .kind) (request .waited) (view M·LineMemory (now (self .entry)))) .deed ⌝ }
@@ -123,7 +132,15 @@ impl<M: LineMemory> Core<M> {
             };
         }
         match request.kind {
-            Kind::Load => self.send_and_serve(count, board, request, Event::SendGetS, Event::OtherGetS, Deed::GetS, Deed::GetSServed),
+            Kind::Load => self.send_and_serve(
+                count,
+                board,
+                request,
+                Event::SendGetS,
+                Event::OtherGetS,
+                Deed::GetS,
+                Deed::GetSServed,
+            ),
             Kind::Store(word) => {
                 if self.may_upgrade(board, request.line) {
                     self.upgrade(count, board, request, word);
@@ -132,7 +149,15 @@ impl<M: LineMemory> Core<M> {
                         line: Some(request.line),
                     };
                 }
-                self.send_and_serve(count, board, request, Event::SendGetM, Event::OtherGetM, Deed::GetM, Deed::GetMServed)
+                self.send_and_serve(
+                    count,
+                    board,
+                    request,
+                    Event::SendGetM,
+                    Event::OtherGetM,
+                    Deed::GetM,
+                    Deed::GetMServed,
+                )
             }
         }
     }

@@ -14,7 +14,10 @@ impl Queue {
     pub(crate) fn new() -> Queue
         ensures { λ r. ⌜ row r ≡ [] ⌝ }
     {
-        Queue { items: [0; 16], len: 0 }
+        Queue {
+            items: [0; 16],
+            len: 0,
+        }
     }
 
     // One number more at the end, where there is room.

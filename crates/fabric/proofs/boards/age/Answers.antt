@@ -15,7 +15,7 @@ loop-i-again c =
     let i = c .loop-i .i in
     boards-set (c .loop-i .boards) i (c .age .last .self) (omega arith) ∙ ap (λ p. change p i (boardOf (c .age .last .self))) (c .loop-i .inv)
     ∙ each-more (λ k. ages) bs i (boardOf (c .age .last .self))
-      (c .age .ensures ∙ ap ages (sym (board-at (c .loop-i .boards) i (c .index-boards-i .result) (omega arith)) ∙ ap (λ p. p i) (c .loop-i .inv) ∙ each-out (λ k. ages) bs i i (omega arith)))
+    (c .age .ensures ∙ ap ages (sym (board-at (c .loop-i .boards) i (c .index-boards-i .result) (omega arith)) ∙ ap (λ p. p i) (c .loop-i .inv) ∙ each-out (λ k. ages) bs i i (omega arith)))
 
 pub returns : need.returns
 returns c = c .loop-i .inv ∙ each-all _ _ (c .loop-i .i) (c .args .count) (c .loop-i-test .left) (omega arith)

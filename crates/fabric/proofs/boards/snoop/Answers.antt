@@ -19,12 +19,12 @@ loop-i-again c =
     let bs = boardsOf (c .args .boards .now) in
     let i = c .loop-i .i in
     elim (c .if-i-sender .came) [
-      then-i-sender w ↦
-        ap boardsOf (w .boards-is) ∙ boards-set (c .loop-i .boards) i (w .take .last .self) (omega arith) ∙ ap (λ p. change p i (boardOf (w .take .last .self))) (c .loop-i .inv)
-        ∙ each-more h bs i (boardOf (w .take .last .self))
+      | then-i-sender w ↦
+          ap boardsOf (w .boards-is) ∙ boards-set (c .loop-i .boards) i (w .take .last .self) (omega arith) ∙ ap (λ p. change p i (boardOf (w .take .last .self))) (c .loop-i .inv)
+          ∙ each-more h bs i (boardOf (w .take .last .self))
           (w .take .ensures ∙ ap g (sym (board-at (c .loop-i .boards) i (w .index-boards-i .result) (omega arith)) ∙ ap (λ p. p i) (c .loop-i .inv) ∙ each-out h bs i i (omega arith)) ∙ sym (but-other (c .args .sender) g i (bs i) (w .if-i-sender .taken)))
-    | else-i-sender w ↦
-        ap boardsOf (w .boards-is) ∙ c .loop-i .inv ∙ each-skip h bs i (sym (but-own (c .args .sender) g i (bs i) (w .if-i-sender .left)))
+      | else-i-sender w ↦
+          ap boardsOf (w .boards-is) ∙ c .loop-i .inv ∙ each-skip h bs i (sym (but-own (c .args .sender) g i (bs i) (w .if-i-sender .left)))
     ]
 
 pub returns : need.returns
