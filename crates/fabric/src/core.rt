@@ -9,6 +9,7 @@ mod replies;
 pub(crate) mod slot;
 mod tests;
 
+#[derive(Drop)]
 pub struct Core<M> {
     boards: [Board; 16],
     rows: [Queue; 64],

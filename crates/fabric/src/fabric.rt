@@ -4,6 +4,7 @@ use crate::core::Core;
 pub mod calls;
 pub mod questions;
 
+#[derive(Drop)]
 pub struct Fabric<S, M> {
     schedule: S,
     core: Core<M>,

@@ -1,5 +1,8 @@
-pub mod Benches
 pub mod Bus
 pub mod Lines
+pub mod Answers
 pub mod Listing
+pub mod Sessions
+pub mod Setups
+pub mod Beginnings
 pub mod Replays

@@ -1,5 +1,7 @@
 // The listing of a trace.
-pub mod bench;
 pub mod bus;
-pub mod lines;
+mod lines;
 pub mod replay;
+pub mod session;
+pub mod setup;
+pub mod whole;

@@ -1,9 +1,0 @@
-use mathlib.Core.Path.{_∙_}
-use Rattle.std.specs.Of.String.{string-bytes}
-use Rattle.listing.proofs.Stays.{stays}
-use Rattle.listing.proofs.replay.calls.list_trace.Needs as need
-
-pub returns : need.returns
-returns c =
-    let text = c .in-Continue-text .ensures tt ∙ c .new .ensures in
-    record { text = text; law = stays (c .args .trace .now) (string-bytes (c .in-Continue-text .text)) text }
