@@ -4,3 +4,4 @@ pub mod Deeds
 pub mod Boards
 pub mod Views
 pub mod Worlds
+pub mod Requests

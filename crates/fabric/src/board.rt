@@ -9,6 +9,7 @@ use rules::kind::LastDeed;
 
 pub(crate) mod deeds;
 pub(crate) mod records;
+pub mod requests;
 
 // A board's state and word at a line.
 #[derive(Clone, Copy)]
