@@ -13,6 +13,9 @@ mod tests {
     use rules::deed::Deed;
     use rules::deed::DeedDebug;
     use rules::deed::DeedPartialEq;
+    use rules::kind::Kind;
+    use rules::kind::KindDebug;
+    use rules::kind::KindPartialEq;
     use rules::kind::LastDeed;
     use rules::kind::LastDeedDebug;
     use rules::kind::LastDeedPartialEq;
@@ -120,9 +123,7 @@ mod tests {
         script: &[(Call, Answer)],
     ) -> Result<(), Fail> {
         let mut fabric = Fabric::new(schedule, FlatMemory::over(words));
-        let result = run(&mut fabric, script);
-        let (_, _) = fabric.into_parts();
-        result
+        run(&mut fabric, script)
     }
 
     fn in_turn(boards: usize) -> Result<RoundRobin, Fail> {
@@ -352,9 +353,45 @@ mod tests {
     fn lists_rows_marks_and_keys() -> Result<(), Fail> {
         let mut words = [0];
         let mut fabric = Fabric::new(in_turn(2)?, FlatMemory::over(&mut words));
-        let result = ask_on_the_way(&mut fabric);
-        let (_, _) = fabric.into_parts();
-        result
+        ask_on_the_way(&mut fabric)
+    }
+
+    // Board 0's store on the way: kind, line and marks, result and waited count.
+    fn shows<S: Schedule, M: LineMemory>(
+        fabric: &Fabric<S, M>,
+        sent: bool,
+        served: bool,
+        result: Option<u64>,
+        waited: u64,
+    ) -> Result<(), Fail> {
+        let Some(request) = fabric.request(0).ok().flatten() else {
+            return Err(Fail::new("no request"));
+        };
+        check_eq(request.kind(), Kind::Store(5))?;
+        check_eq(request.line(), 1)?;
+        check_eq(request.is_sent(), sent)?;
+        check_eq(request.is_served(), served)?;
+        check_eq(request.result(), result)?;
+        check_eq(request.waited(), waited)
+    }
+
+    #[test]
+    fn requests_shown() -> Result<(), Fail> {
+        let mut words = [0; 2];
+        let mut fabric = Fabric::new(in_turn(2)?, FlatMemory::over(&mut words));
+        check(fabric.store(1, 1, 6, 0).is_ok())?;
+        let _ = fabric.slot();
+        let _ = fabric.slot();
+        check(fabric.store(0, 1, 5, 0).is_ok())?;
+        shows(&fabric, false, false, None, 0)?;
+        let _ = fabric.slot();
+        shows(&fabric, true, false, None, 1)?;
+        let _ = fabric.slot();
+        let _ = fabric.slot();
+        shows(&fabric, true, true, Some(5), 3)?;
+        check(fabric.collect(0).is_ok())?;
+        check(matches!(fabric.request(0), Ok(None)))?;
+        check(matches!(fabric.request(2), Err(Refusal::NoBoard)))
     }
 
     #[test]
