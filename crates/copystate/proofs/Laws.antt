@@ -15,13 +15,13 @@ use Rattle.copystate.specs.Rules.{admits, becomes, makes-holder, ends-holder, 
 use Rattle.copystate.specs.Pairs.{bears, beside, allowed}
 use Rattle.copystate.specs.Soundness.{happens, pair-kept}
 use Rattle.copystate.specs.Law.{Entry-law, Beside-law, Pair-law, Table-law}
-use Rattle.copystate.proofs.Checked.{safety, rule, pair}
+use Rattle.copystate.proofs.Checked.{safety, rule as moving, pair}
 use Rattle.copystate.proofs.Truths.{from-same, from-implies, or-second, from-same-state}
 use Rattle.copystate.proofs.Flags.{state-law}
 use Rattle.copystate.proofs.Rows.{waiting-law, waiting-only}
 
 moved : (s : State) (e : Event) → next-of s e ≡ cond (meets s e) (becomes s e) s
-moved s e = from-same-state (next-of s e) (cond (meets s e) (becomes s e) s) (rule 1 (lit< tt) s e)
+moved s e = from-same-state (next-of s e) (cond (meets s e) (becomes s e) s) (moving 1 (lit< tt) s e)
 
 M-left : (s : State) (e : Event) → modified s ≡ true → modified (next-of s e) ≡ false → (takes-M e ≡ true) × (writes-back (next-of s e) ≡ true)
 M-left s e m n =
@@ -41,19 +41,19 @@ shared s e g =
 
 pub entry-law : (s : State) (e : Event) → Entry-law s e
 entry-law s e = record {
-  met-where-admitted = from-same (meets s e) (admits s e) (rule 0 (lit< tt) s e);
+  met-where-admitted = from-same (meets s e) (admits s e) (moving 0 (lit< tt) s e);
   moves-by-rule = λ h. moved s e ∙ cond-true (meets s e) (becomes s e) s h;
   stays-where-unmet = λ h. moved s e ∙ cond-false (meets s e) (becomes s e) s h;
   holder-after = from-same (holds (next-of s e)) (not (ends-holder s e) && (makes-holder s e || holds s)) (safety 0 (lit< tt) s e);
-  waiting-after = from-same (waits (next-of s e)) (sends s e || (not (same-event e OwnData) && waits s)) (rule 2 (lit< tt) s e);
-  wanting-after = from-same (wants (next-of s e)) (sends-to-write s e || (not (same-event e OwnData) && wants s)) (rule 3 (lit< tt) s e);
-  upgrading-after = from-same (upgrades (next-of s e)) (begins-upgrade s e || (not (ends-upgrade e) && upgrades s)) (rule 4 (lit< tt) s e);
-  write-back-begins = from-same (begins-write-back s e) (owes-write-back s e) (rule 6 (lit< tt) s e);
-  write-back-after = from-same (writes-back (next-of s e)) (owes-write-back s e || (not (same-event e OwnPutM) && writes-back s)) (rule 5 (lit< tt) s e);
+  waiting-after = from-same (waits (next-of s e)) (sends s e || (not (same-event e OwnData) && waits s)) (moving 2 (lit< tt) s e);
+  wanting-after = from-same (wants (next-of s e)) (sends-to-write s e || (not (same-event e OwnData) && wants s)) (moving 3 (lit< tt) s e);
+  upgrading-after = from-same (upgrades (next-of s e)) (begins-upgrade s e || (not (ends-upgrade e) && upgrades s)) (moving 4 (lit< tt) s e);
+  write-back-begins = from-same (begins-write-back s e) (owes-write-back s e) (moving 6 (lit< tt) s e);
+  write-back-after = from-same (writes-back (next-of s e)) (owes-write-back s e || (not (same-event e OwnPutM) && writes-back s)) (moving 5 (lit< tt) s e);
   another-makes-no-holder = λ o. from-same (holds (next-of s e)) (holds s) (made s e o .0);
   only-data-makes-a-copy = λ d c.
       or-second (same-event e OwnData) (copies s)
-      (from-implies (copies (next-of s e)) (same-event e OwnData || copies s) (rule 7 (lit< tt) s e) c) d;
+      (from-implies (copies (next-of s e)) (same-event e OwnData || copies s) (moving 7 (lit< tt) s e) c) d;
   another-makes-no-copy = λ o. from-implies (copies (next-of s e)) (copies s) (made s e o .1);
   GetM-leaves-only-MIwb = λ c m k.
       from-same-state (next-of s e) MIwb
