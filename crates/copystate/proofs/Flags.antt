@@ -1,5 +1,5 @@
 -- What a board is in each state: each part is one test over all states.
-use Rattle.std.proofs.Common.{◌≡◌, Bool, true, false, not, ◌&&◌, ◌||◌, refl}
+use Rattle.std.proofs.Common.{not, ◌&&◌, ◌||◌, refl}
 use Rattle.std.proofs.lemmas.Bool.{not-true}
 use Rattle.copystate.specs.declared.states.State.{State}
 use Rattle.copystate.specs.declared.states.State.TheVariants.{I}

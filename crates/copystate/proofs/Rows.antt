@@ -4,11 +4,9 @@ use Rattle.std.proofs.lemmas.Bool.{false≢true}
 use Rattle.copystate.specs.declared.states.State.{State}
 use Rattle.copystate.specs.declared.states.State.TheVariants.{I, S, M, ISd, IMd, SMw, MIwb, MSwb, IMdI, ISdI, IMdS}
 use Rattle.copystate.specs.declared.events.Event.TheVariants.{OwnData}
-use Rattle.copystate.specs.Truth.{same}
 use Rattle.copystate.specs.States.{same_state, waits, wants}
 use Rattle.copystate.specs.Table.{next_of}
-use Rattle.copystate.specs.Pairs.{before}
-use Rattle.copystate.specs.Waiting.{someone, occurs, a_store, waiting, served, own_request, request, WaitingLaw, WaitingOnly}
+use Rattle.copystate.specs.Waiting.{someone, occurs, a_store, waiting, own_request, request, WaitingLaw, WaitingOnly}
 
 -- the state by whether a store waits behind, and whether anyone does
 abbrev form : Bool → Bool → Bool → State

@@ -1,5 +1,5 @@
 -- Two boards at one line: which states may stand beside one another, and when an event is allowed.
-use Rattle.std.specs.Prelude.{Bool, true, false, cond, not, ◌&&◌, ◌||◌}
+use Rattle.std.specs.Prelude.{Bool, true, cond, not, ◌&&◌, ◌||◌}
 use Rattle.copystate.specs.declared.states.State.{State}
 use Rattle.copystate.specs.declared.states.State.TheVariants.{IMd, MIwb, IMdI, ISdI}
 use Rattle.copystate.specs.declared.events.Event.{Event}

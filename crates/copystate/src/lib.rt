@@ -1,4 +1,6 @@
 // The states of one board's copy of a line, the events that it meets, and the table of next states.
+#![tactic(auto)]
+
 pub mod events;
 mod pairs;
 pub mod soundness;

@@ -1,11 +1,11 @@
 -- What a board holds, and what it does at an event.
-use Rattle.std.specs.Prelude.{◌≡◌, ℕ, ◌+◌, ◌-◌, ◌^◌, min, Bool, true, false, cond, List, [], ◌∷◌, ◌++◌, length, drop, Some, None, Option, ◌==◌, nat_lt}
+use Rattle.std.specs.Prelude.{ℕ, ◌+◌, ◌-◌, ◌^◌, min, Bool, cond, List, [], ◌∷◌, ◌++◌, length, drop, Some, None, Option, ◌==◌, nat_lt}
 use Rattle.copystate.specs.States.{copies, modified}
 use Rattle.copystate.specs.Table as table
 use Rattle.copystate.specs.declared.states.State.{State}
 use Rattle.copystate.specs.declared.states.State.TheVariants.{I}
 use Rattle.copystate.specs.declared.events.Event.{Event}
-use Rattle.copystate.specs.declared.events.Event.TheVariants.{PostStore, SendGetS, SendGetM, Replace, OwnData, OwnUpg, OwnPutM}
+use Rattle.copystate.specs.declared.events.Event.TheVariants.{PostStore, Replace, OwnData, OwnUpg, OwnPutM}
 use Rattle.rules.specs.declared.kind.Kind.{Kind}
 use Rattle.rules.specs.declared.kind.Kind.TheVariants.{Load, Store}
 use Rattle.rules.specs.declared.kind.LastDeed.{LastDeed}

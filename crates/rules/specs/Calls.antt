@@ -10,7 +10,7 @@ use Rattle.rules.specs.declared.kind.Kind.TheVariants.{Load, Store}
 use Rattle.rules.specs.declared.refusal.Refusal.{Refusal}
 use Rattle.rules.specs.declared.refusal.Refusal.TheVariants.{NoBoard, NoLine, Busy, KeyTooLarge, KeyDiffers, NothingToReplace, ReplacementWaits, NoRequest, NotServed}
 use Rattle.rules.specs.Words.{number}
-use Rattle.rules.specs.Boards.{Board, Place, blank, free, posted, sent, served, placed, posts, replaces, stored}
+use Rattle.rules.specs.Boards.{Place, blank, free, posted, sent, served, placed, posts, replaces, stored}
 use Rattle.rules.specs.Cells.{Cells, board_at, key_at, size_of, with_board, with_key}
 use Rattle.rules.specs.Slots.{slot_of}
 

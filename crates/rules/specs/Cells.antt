@@ -1,9 +1,9 @@
 -- What a fabric holds but for its schedule, and each change of one part of it.
-use Rattle.std.specs.Prelude.{ℕ, zero, suc, Bool, true, false, cond, not, ◌&&◌, ◌||◌, List, [], ◌∷◌, drop, ◌==◌, nat_lt}
+use Rattle.std.specs.Prelude.{ℕ, zero, suc, Bool, true, false, cond, ◌||◌, List, [], ◌∷◌, drop, ◌==◌, nat_lt}
 use Rattle.memory.specs.Interface.{written}
 use Rattle.copystate.specs.States.{holds}
 use Rattle.copystate.specs.declared.events.Event.{Event}
-use Rattle.rules.specs.Boards.{Board, blank, ages, change, moves, pushed}
+use Rattle.rules.specs.Boards.{Board, ages, change, moves, pushed}
 
 -- Boards by number; rows, memory words and keys by line; and the line count.
 pub record Cells : Type 0 where

@@ -1,6 +1,5 @@
 -- Claimed loads and stores, and what becomes of a claim: it is redeemed, or finished.
 use Rattle.std.specs.Prelude.{ℕ, zero, suc, ◌+◌, ◌*◌, Bool, true, false, not, ◌&&◌, List, [], ◌∷◌, ◌++◌, Some, None, Option, ◌==◌, nat_le}
-use Rattle.rules.specs.declared.deed.Deed.{Deed}
 use Rattle.rules.specs.declared.kind.Access.{Access}
 use Rattle.rules.specs.declared.kind.Access.TheVariants as access
 use Rattle.rules.specs.declared.kind.Kind.{Kind}

@@ -1,5 +1,5 @@
 -- One slot.
-use Rattle.std.specs.Prelude.{ℕ, Bool, true, false, cond, not, ◌&&◌, List, [], ◌∷◌, Some, None, Option}
+use Rattle.std.specs.Prelude.{ℕ, Bool, true, false, not, ◌&&◌, List, [], ◌∷◌, Some, None, Option}
 use Rattle.copystate.specs.States.{upgrades}
 use Rattle.copystate.specs.declared.events.Event.{Event}
 use Rattle.copystate.specs.declared.events.Event.TheVariants.{SendGetS, SendGetM, OtherGetS, OtherGetM, OtherUpg}
@@ -9,7 +9,7 @@ use Rattle.rules.specs.declared.kind.Kind.{Kind}
 use Rattle.rules.specs.declared.kind.Kind.TheVariants.{Load, Store}
 use Rattle.rules.specs.declared.kind.LastDeed.{LastDeed}
 use Rattle.rules.specs.declared.kind.LastDeed.TheVariants.{WriteBack, Request}
-use Rattle.rules.specs.Boards.{Board, Place, free, posted, sent, served, gets, gives, lifts, sends}
+use Rattle.rules.specs.Boards.{Place, free, posted, sent, served, gets, gives, lifts, sends}
 use Rattle.rules.specs.Cells.{Cells, aged, board_at, held, is_empty, is_first, joins, leaves, row_at, snoops, with_board, with_word, word_at}
 
 -- What a slot did: the deed, its line if it has one, and what the fabric holds after.

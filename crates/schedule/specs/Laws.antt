@@ -1,9 +1,9 @@
 -- Both kinds of schedule keep the law, and go round.
-use Rattle.std.specs.Prelude.{◌≡◌, ℕ, ◌+◌, ◌%◌, ◌<◌, ◌≤◌, List, length, take, slice_index, refl}
+use Rattle.std.specs.Prelude.{◌≡◌, ℕ, ◌+◌, ◌%◌, ◌<◌, ◌≤◌, List, length, take, slice_index}
 use Rattle.std.proofs.Common.{sym, ap, subst, ◌∙◌, mod-lt, arith}
 use Rattle.std.proofs.Math.Path.{fun_ext}
 use Rattle.std.proofs.lemmas.List.{get_or-take, length-take-le}
-use Rattle.schedule.specs.Rows.{Lawful, later, in_turn, repeated}
+use Rattle.schedule.specs.Rows.{Lawful, later, repeated}
 use Rattle.schedule.specs.Lists.{Accepted}
 use Rattle.schedule.specs.Meanings.{round_count, round_owners, list_count, list_span, list_owners}
 use Rattle.schedule.specs.declared.round_robin.RoundRobin.{RoundRobin}

@@ -1,5 +1,5 @@
 -- The computed refusal is the first that fits.
-use Rattle.std.specs.Prelude.{◌≡◌, ℕ, zero, suc, ◌+◌, ◌<◌, ◌≤◌, Bool, true, false, not, List, [], ◌∷◌, length, is_some, Some, None, Ok, Err, Decides, Option, Result, MatchOption, MatchResult, ◌≢◌, nat_eq, nat_le, slice_index, slice_index_or, refl}
+use Rattle.std.specs.Prelude.{◌≡◌, ℕ, ◌+◌, ◌<◌, ◌≤◌, Bool, true, false, not, List, length, is_some, Some, None, Ok, Err, Decides, Option, Result, MatchOption, MatchResult, ◌≢◌, nat_eq, nat_le, slice_index, slice_index_or, refl}
 use Rattle.std.proofs.Common.{sym, subst, add-one, arith}
 use Rattle.std.specs.Result.{result_err}
 use Rattle.std.proofs.lemmas.Bool.{both_ways, leb-true, le-leb, cond_both, or_from, not_from_true}
@@ -8,7 +8,7 @@ use Rattle.std.proofs.lemmas.List.{get_or_default}
 use Rattle.schedule.specs.declared.refusal.ScheduleRefusal.{ScheduleRefusal}
 use Rattle.schedule.specs.declared.refusal.ScheduleRefusal.TheVariants.{BoardCount, ListLength, ForeignBoard, MissingBoard}
 use Rattle.schedule.specs.Numbers.{number}
-use Rattle.schedule.specs.Lists.{Fits, FirstFit, Accepted, some, foreign, names, missing, fits, first_of, list_refusal}
+use Rattle.schedule.specs.Lists.{Fits, FirstFit, Accepted, foreign, names, missing, fits, list_refusal}
 
 -- An entry that passes, read at the default 0.
 at_zero : (P : ℕ → Type 0) (t : Bool) (xs : List ℕ) → Decides t ((k : ℕ) × (k < length xs) × ((d : ℕ) → P (slice_index_or xs k d))) → Decides t ((k : ℕ) × (k < length xs) × P (slice_index xs k))

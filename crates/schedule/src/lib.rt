@@ -1,4 +1,6 @@
 // Slot schedules: who owns the bus in each slot.
+#![tactic(auto)]
+
 ghost use Rattle.std.specs.Prelude.{◌≡◌, ℕ, ◌<◌, ◌≤◌};
 ghost use Rattle.schedule.specs.Rows.{Lawful, later};
 

@@ -1,5 +1,5 @@
 -- A number kept below a cap.
-use Rattle.std.proofs.Common.{◌≡◌, ℕ, ◌+◌, ◌-◌, ◌*◌, ◌^◌, ◌<◌, ◌≤◌, min, Bool, true, false, cond, List, [], ◌∷◌, length, get_or, take, drop, Some, None, Option, sym, refl, ap, ◌∙◌, arith, take_all, rules}
+use Rattle.std.proofs.Common.{◌≡◌, ℕ, ◌+◌, ◌-◌, ◌*◌, ◌^◌, ◌<◌, ◌≤◌, min, Bool, true, false, cond, List, [], ◌∷◌, length, get_or, take, drop, Some, None, Option, sym, refl, ap, ◌∙◌, arith, take_all}
 use Rattle.trace.specs.Numbers.{is_digit, digits_on, capped}
 
 min_step : (n d : ℕ) → min (min n (2 ^ 64) * 10 + d) (2 ^ 64) ≡ min (n * 10 + d) (2 ^ 64)

@@ -1,7 +1,6 @@
 -- A line with words.
-use Rattle.std.proofs.Common.{◌≡◌, ℕ, ◌-◌, ◌≤◌, true, leb, List, map, length, get_or, take, drop, Ok, Result, sym, refl, ap, ◌∙◌, arith, lt-ltb, eq-eqb, ne_eqb}
+use Rattle.std.proofs.Common.{◌≡◌, ℕ, ◌-◌, ◌≤◌, true, leb, List, map, length, get_or, take, drop, Ok, sym, ap, ◌∙◌, arith, lt-ltb, eq-eqb, ne_eqb}
 use Rattle.std.proofs.lemmas.List.{take_rest}
-use Rattle.trace.specs.declared.fault.LineFault.{LineFault}
 use Rattle.trace.specs.declared.word.Word.{Word}
 use Rattle.trace.specs.Commands.{apart}
 use Rattle.trace.specs.Words.{word_of, words}

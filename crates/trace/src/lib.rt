@@ -1,4 +1,6 @@
 // The lines of a trace, taken apart.
+#![tactic(auto)]
+
 pub mod command;
 pub mod fault;
 pub mod number;

@@ -6,8 +6,8 @@ use Rattle.memory.proofs.Replacing.{replaces_written, nothing_replaces}
 use Rattle.memory.proofs.FlatWrites.{set_replaces, set_keeps_past, past_stored}
 use Rattle.memory.proofs.flat.store.Goals as goal
 
-pub returns-then-line-lines-of : goal.returns-then-line-lines-of
-returns-then-line-lines-of c =
+pub returns-then-line-lines_of : goal.returns-then-line-lines_of
+returns-then-line-lines_of c =
     let ws = c.args.words.now in
     let i = c.args.line in
     let v = c.args.word in
@@ -22,8 +22,8 @@ returns-then-line-lines-of c =
       stored = sym (cond-true (ltb i 64) (set ws i v) ws (lt-ltb i 64 low));
     }
 
-pub returns-else-line-lines-of : goal.returns-else-line-lines-of
-returns-else-line-lines-of c =
+pub returns-else-line-lines_of : goal.returns-else-line-lines_of
+returns-else-line-lines_of c =
     let ws = c.args.words.now in
     let i = c.args.line in
     let v = c.args.word in

@@ -6,7 +6,7 @@ use Rattle.trace.proofs.number.read_number.Goals as goal
 pub returns : goal.returns
 returns c =
     let s = c.args.s.now in
-    let value = c.without-leading-zero.ensures in
+    let value = c.without_leading_zero.ensures in
     record {
       value = value;
       decimal = record {

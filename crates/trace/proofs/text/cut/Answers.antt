@@ -1,4 +1,3 @@
-use Rattle.std.proofs.Common.{◌≡◌, sym}
 use Rattle.std.specs.Option.{option_map}
 use Rattle.trace.proofs.Cuts.{cut_law}
 use Rattle.trace.proofs.text.cut.Goals as goal

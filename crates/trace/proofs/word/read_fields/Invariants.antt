@@ -1,4 +1,3 @@
-use Rattle.std.proofs.Common.{◌≡◌, ℕ, ◌<◌, length}
 use Rattle.trace.proofs.Fields.{Upto}
 use Rattle.trace.proofs.word.read_fields.Given as goal
 

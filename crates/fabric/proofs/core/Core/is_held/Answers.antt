@@ -5,4 +5,4 @@ use Rattle.fabric.proofs.core.Core.is_held.Goals as goal
 
 pub returns : goal.returns
 unfolding held view
-returns g c = c.has-holder.ensures
+returns g c = c.has_holder.ensures

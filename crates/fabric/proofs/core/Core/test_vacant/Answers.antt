@@ -10,9 +10,9 @@ pub returns-then-line-lines : goal.returns-then-line-lines
 unfolding vacant
 returns-then-line-lines g c = search rules
 
-pub returns-then-is-busy : goal.returns-then-is-busy
+pub returns-then-is_busy : goal.returns-then-is_busy
 unfolding vacant
-returns-then-is-busy g c = search rules
+returns-then-is_busy g c = search rules
 
 pub returns : goal.returns
 unfolding vacant

@@ -5,5 +5,5 @@ use Rattle.fabric.proofs.queue.Queue.pop.Goals as goal
 pub returns : goal.returns
 returns c = record { value = search (rules, first_take); low = c.args.self.now.low 0; rest = search (rules, shift_take) }
 
-pub invariant-of-self : goal.invariant-of-self
-invariant-of-self c = (search rules, (low_turned c.args.self.now.items _ (search rules) c.args.self.now.low, tt))
+pub invariant_of-self : goal.invariant_of-self
+invariant_of-self c = (search rules, (low_turned c.args.self.now.items _ (search rules) c.args.self.now.low, tt))

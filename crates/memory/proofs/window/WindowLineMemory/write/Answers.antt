@@ -27,16 +27,16 @@ returns-in-Some g c =
       around = around_stays size w.start w.count i place v before after within at there (m.around w.below) (m.around last) c.write.ensures.around;
       lender = c.write.ensures.lender;
       stays = search rules;
-      lines-below = c.write.ensures.size;
+      lines_below = c.write.ensures.size;
       below = below_replaces size w.start w.count i place v before after within at there;
       spares = outside_stays size w.start w.count i place v before after within at there;
     }
 
-pub returns-in-default : goal.returns-in-default
-returns-in-default g c =
+pub returns-in_default : goal.returns-in_default
+returns-in_default g c =
     let m = g.M.LineMemory in
     let w = c.args.self.now in
-    let outside : size_of m w ≤ c.args.line = omega (arith, c.in-default.ensures) in
+    let outside : size_of m w ≤ c.args.line = omega (arith, c.in_default.ensures) in
     let r = nothing_replaces (size_of m w) (words_of m w) c.args.line c.args.word outside in
     record {
       size = search rules;
@@ -45,7 +45,7 @@ returns-in-default g c =
       around = search rules;
       lender = search rules;
       stays = search rules;
-      lines-below = search rules;
+      lines_below = search rules;
       below = nothing_replaces (w.start + size_of m w) (m.words w.below) (w.start + c.args.line) c.args.word (omega arith);
       spares = λ k _. search rules;
     }

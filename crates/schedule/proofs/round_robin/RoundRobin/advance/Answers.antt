@@ -7,4 +7,4 @@ pub returns : goal.returns
 unfolding round_owners
 returns c =
     let s = c.args.self.now in
-    record { rest = around_later (λ k. k) s.boards s.place _ c.next-place-self.ensures.value; count = refl }
+    record { rest = around_later (λ k. k) s.boards s.place _ c.next_place-self.ensures.value; count = refl }

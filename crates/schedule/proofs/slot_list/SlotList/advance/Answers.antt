@@ -8,7 +8,7 @@ unfolding list_owners
 returns c =
     let s = c.args.self.now in
     record {
-      rest = around_later (λ k. get_or (take s.len s.entries) k 0) s.len s.place _ c.next-place-self.ensures.value;
+      rest = around_later (λ k. get_or (take s.len s.entries) k 0) s.len s.place _ c.next_place-self.ensures.value;
       count = refl;
       span = refl;
     }

@@ -5,8 +5,8 @@ use Rattle.schedule.proofs.slot_list.scan.has_missing.Goals as goal
 pub loop-board-init : goal.loop-board-init
 loop-board-init c = search rules
 
-pub returns-then-not-has-entry : goal.returns-then-not-has-entry
-returns-then-not-has-entry c = missing_at c.args.boards c.args.entries.now c.loop-board.board (search rules) (search rules)
+pub returns-then-not-has_entry : goal.returns-then-not-has_entry
+returns-then-not-has_entry c = missing_at c.args.boards c.args.entries.now c.loop-board.board (search rules) (search rules)
 
 pub loop-board-preserved : goal.loop-board-preserved
 loop-board-preserved c = missing_more c.args.entries.now c.loop-board.board c.loop-board.invariant (search rules)

@@ -1,4 +1,4 @@
-use Rattle.std.proofs.Common.{◌≡◌, ◌≤◌, length, take}
+use Rattle.std.proofs.Common.{◌≡◌, length, take}
 use Rattle.schedule.proofs.slot_list.scan.padded.Given as goal
 
 abbrev pub invariant-loop-i : goal.invariant-loop-i
