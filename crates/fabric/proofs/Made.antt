@@ -1,10 +1,9 @@
 -- The meaning of the tables of a fabric just made.
-use Rattle.std.proofs.Common.{◌≡◌, ℕ, zero, suc, List, [], map, get_or, replicate, None, refl, ap}
+use Rattle.std.proofs.Common.{◌≡◌, ℕ, zero, suc, [], map, get_or, replicate, None, refl, ap}
 use mathlib.Core.Path.{fun_ext}
 use Rattle.copystate.specs.declared.states.State.{State}
 use Rattle.copystate.specs.declared.states.State.TheVariants.{I}
 use Rattle.memory.specs.declared.interface.LineMemory as memory
-use Rattle.rules.specs.Boards as rules
 use Rattle.rules.specs.Boards.{blank, free}
 use Rattle.rules.specs.Calls.{empty}
 use Rattle.rules.specs.declared.kind.LastDeed.TheVariants.{WriteBack}

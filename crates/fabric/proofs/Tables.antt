@@ -1,5 +1,5 @@
 -- The tables' meaning after one change.
-use Rattle.std.proofs.Common.{◌≡◌, ℕ, ◌<◌, Bool, true, false, not, List, [], map, length, get_or, set, is_some, Some, None, Option, sym, refl, ap, ◌∙◌}
+use Rattle.std.proofs.Common.{◌≡◌, ℕ, ◌<◌, Bool, true, false, not, List, [], length, get_or, set, is_some, Some, None, Option, refl, ap, ◌∙◌}
 use Rattle.std.proofs.lemmas.List.{get_or-map}
 use Rattle.rules.specs.Calls.{is_free}
 use Rattle.rules.specs.Boards.{blank, change, stored}

@@ -1,5 +1,5 @@
 -- What a queue holds, oldest first.
-use Rattle.std.specs.Prelude.{ℕ, zero, suc, cond, List, [], ◌∷◌, length, take, Some, None, Option, nat_lt, slice_index}
+use Rattle.std.specs.Prelude.{ℕ, cond, List, length, take, Some, None, Option, nat_lt, slice_index}
 use Rattle.fabric.specs.declared.queue.Queue.{Queue}
 
 abbrev pub row : Queue → List ℕ

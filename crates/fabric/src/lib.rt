@@ -1,4 +1,6 @@
 // The fabric: boards with private copies of lines, over any slot schedule and any line memory.
+#![tactic(auto)]
+
 pub mod answer;
 pub mod board;
 mod boards;

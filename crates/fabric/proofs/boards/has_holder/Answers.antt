@@ -1,4 +1,4 @@
-use Rattle.std.proofs.Common.{◌≡◌, ℕ, Bool, sym, ap, ◌∙◌, arith}
+use Rattle.std.proofs.Common.{sym, ap, ◌∙◌, arith}
 use Rattle.copystate.specs.States.{holds}
 use Rattle.rules.specs.Boards.{Board}
 use Rattle.fabric.specs.Boards.{board_of, boards_of}

@@ -1,4 +1,4 @@
-use Rattle.std.proofs.Common.{sym, ap, ◌∙◌, arith, rules}
+use Rattle.std.proofs.Common.{sym, ap, ◌∙◌, arith}
 use Rattle.rules.specs.Boards.{change, moves}
 use Rattle.rules.specs.Cells.{but_for}
 use Rattle.fabric.specs.Boards.{board_of, boards_of}

@@ -1,6 +1,6 @@
 use Rattle.std.proofs.Common.{sym, ap, ◌∙◌}
-use Rattle.rules.specs.Cells.{is_empty, is_first}
-use Rattle.fabric.specs.Queues.{place, row}
+use Rattle.rules.specs.Cells.{is_first}
+use Rattle.fabric.specs.Queues.{row}
 use Rattle.fabric.proofs.Tables.{row_at_lem}
 use Rattle.fabric.proofs.rows.is_first_in.Goals as goal
 

@@ -1,4 +1,3 @@
-use Rattle.std.proofs.Common.{◌∙◌}
 use Rattle.rules.specs.Cells.{aged}
 use Rattle.fabric.specs.Views.{view}
 use Rattle.fabric.proofs.Views.{put_boards}

@@ -1,4 +1,4 @@
-use Rattle.std.proofs.Common.{◌≡◌, sym, ap, ◌∙◌, rules}
+use Rattle.std.proofs.Common.{sym, ap, ◌∙◌, rules}
 use Rattle.rules.specs.Boards as rules
 use Rattle.rules.specs.Slots.{first_of}
 use Rattle.fabric.specs.Deeds.{given, gives_first}

@@ -1,4 +1,3 @@
-use Rattle.std.proofs.Common.{sym, ap, ◌∙◌}
 use Rattle.rules.specs.Cells.{held}
 use Rattle.fabric.specs.Views.{view}
 use Rattle.fabric.proofs.core.Core.is_held.Goals as goal

@@ -6,4 +6,4 @@ pub returns : goal.returns
 returns c = record { value = search (rules, first_take); low = c.args.self.now.low 0; rest = search (rules, shift_take) }
 
 pub invariant_of-self : goal.invariant_of-self
-invariant_of-self c = (search rules, (low_turned c.args.self.now.items _ (search rules) c.args.self.now.low, tt))
+invariant_of-self c = record { fits = search rules; low = low_turned c.args.self.now.items _ (search rules) c.args.self.now.low }

@@ -6,4 +6,4 @@ pub returns-then-self-lt16 : goal.returns-then-self-lt16
 returns-then-self-lt16 c = search (rules, pushed_take)
 
 pub invariant_of-self : goal.invariant_of-self
-invariant_of-self c = (search rules, (low_set c.args.self.now.items c.args.self.now.len c.args.x (search rules) c.args.self.now.low, tt))
+invariant_of-self c = record { fits = search rules; low = low_set c.args.self.now.items c.args.self.now.len c.args.x (search rules) c.args.self.now.low }
