@@ -1,10 +1,10 @@
 -- The first lines of a trace, one cut at a time.
-use Rattle.std.proofs.Common.{◌≡◌, ℕ, ◌+◌, ◌≤◌, List, [], ◌∷◌, ◌++◌, length, drop, IfOk, Some, None, Ok, Err, Option, Result, sym, refl, ap, ◌∙◌, subst, append_assoc, arith, length-append}
+use Rattle.std.proofs.Common.{◌≡◌, ℕ, ◌+◌, ◌≤◌, List, [], ◌∷◌, ◌++◌, length, drop, IfOk, Some, None, Ok, Err, Option, Result, sym, ap, ◌∙◌, append_assoc, arith, length-append}
 use Rattle.std.proofs.lemmas.List.{drop_at, drop-drop}
 use Rattle.std.proofs.lemmas.Bool.{cond-false, le-ltb}
 use Rattle.std.specs.declared.alloc.AllocError.{AllocError}
 use Rattle.schedule.specs.Meanings.{Means, round_count, list_count, list_owners, list_span}
-use Rattle.schedule.specs.Rows.{in_turn, repeated}
+use Rattle.schedule.specs.Rows.{in_turn}
 use Rattle.schedule.specs.declared.slot_list.SlotList.{SlotList}
 use Rattle.trace.specs.Commands.{Setting, fabric_order, list_order}
 use Rattle.trace.specs.Faults.{Told}
@@ -13,7 +13,6 @@ use Rattle.trace.specs.declared.fault.LineFault.{LineFault}
 use Rattle.trace.specs.declared.fault.TraceFault.{TraceFault}
 use Rattle.trace.specs.declared.fault.TraceFault.TheVariants.{Line, OutOfMemory}
 use Rattle.trace.proofs.Cuts.{pieces_cut, pieces_after}
-use Rattle.listing.specs.Lines.{fault_line}
 use Rattle.listing.specs.Listing.{Stand, begun, first, from_first, from_second, list_settled, listed, listing, second, settled, unopened}
 use Rattle.listing.specs.Beginnings.{Begun, FromSecond, standing}
 use Rattle.listing.specs.Setups.{Relisted}

@@ -1,5 +1,5 @@
 -- A line of the trace more.
-use Rattle.std.proofs.Common.{◌≡◌, ℕ, ◌+◌, Bool, true, false, List, [], ◌∷◌, ◌++◌, Some, None, Ok, Err, Result, sym, refl, ap, ◌∙◌, append-nil}
+use Rattle.std.proofs.Common.{◌≡◌, ℕ, ◌+◌, Bool, true, false, List, [], ◌++◌, Some, None, Ok, Err, Result, sym, ap, ◌∙◌, append-nil}
 use Rattle.trace.specs.Commands.{Order, call_order}
 use Rattle.trace.specs.Pieces.{before, after, pieces}
 use Rattle.trace.specs.declared.fault.LineFault.{LineFault}

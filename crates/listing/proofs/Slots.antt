@@ -1,5 +1,5 @@
 -- Slots run one by one.
-use Rattle.std.proofs.Common.{◌≡◌, ℕ, zero, suc, ◌+◌, ◌-◌, ◌<◌, ◌≤◌, List, [], ◌++◌, sym, refl, ap, ◌∙◌, append_assoc, append-nil, arith}
+use Rattle.std.proofs.Common.{◌≡◌, ℕ, suc, ◌+◌, ◌-◌, ◌<◌, ◌≤◌, List, ◌++◌, sym, ap, ◌∙◌, append_assoc, append-nil, arith}
 use Rattle.rules.specs.Calls.{says, slot}
 use Rattle.listing.specs.Answers.{slot_text}
 use Rattle.listing.specs.Listing.{Stand, passed, ran, slot_lines}

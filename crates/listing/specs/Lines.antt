@@ -1,5 +1,5 @@
 -- The lines of a listing.
-use Rattle.std.specs.Prelude.{ℕ, List, [], ◌++◌, codes, decimal}
+use Rattle.std.specs.Prelude.{ℕ, List, ◌++◌, codes, decimal}
 use Rattle.schedule.specs.Numbers.{number}
 use Rattle.trace.specs.Faults.{cause}
 use Rattle.trace.specs.declared.fault.LineFault.{LineFault}

@@ -1,5 +1,5 @@
 -- What the first lines of a trace set up.
-use Rattle.std.specs.Prelude.{◌≡◌, ℕ, List, ◌++◌, length, Some, None, Ok, Err, Option, Result}
+use Rattle.std.specs.Prelude.{◌≡◌, ℕ, List, Some, None, Ok, Err, Option, Result}
 use Rattle.schedule.specs.Lists.{count_refusal, list_refusal}
 use Rattle.schedule.specs.Meanings.{Means, round_count, round_owners}
 use Rattle.schedule.specs.Rows.{in_turn}

@@ -1,4 +1,6 @@
 // The listing of a trace.
+#![tactic(auto)]
+
 pub mod bus;
 mod lines;
 pub mod replay;

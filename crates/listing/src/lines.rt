@@ -1,5 +1,5 @@
 // The lines of a listing.
-ghost use Rattle.std.specs.Prelude.{◌≡◌, ◌++◌, is_ok, string_bytes, OnOk};
+ghost use Rattle.std.specs.Prelude.{◌≡◌, ◌++◌, string_bytes, OnOk};
 ghost use Rattle.listing.specs.Lines.{collected_line, fault_line, guarded_line, hit_line, idle_line, letter_of, refused_line, replaced_line, slot_line, too_long, wait_line};
 ghost use Rattle.fabric.specs.Worlds.{done_of, got_of, replied_of, report_of};
 ghost use Rattle.listing.specs.Answers.{answer_text, slot_text};
@@ -8,7 +8,6 @@ ghost use Rattle.listing.specs.declared.lines.CallLetter.TheVariants.{Collect, G
 use fabric::answer::{Collected, Reply, SlotReport};
 use rules::refusal::Refusal;
 use std::alloc::AllocError;
-use std::fmt;
 use std::fmt::Write;
 use trace::fault::LineFault;
 
@@ -36,21 +35,11 @@ impl CallLetter {
     }
 }
 
-// Text goes into memory, so it is want of memory that stops a writing.
-fn stored(written: fmt::Result) -> Result<(), AllocError>
-    ensures { is_ok result ≡ is_ok written }
-{
-    match written {
-        Ok(()) => Ok(()),
-        Err(_) => Err(AllocError),
-    }
-}
-
 // A slot in which nothing is done.
 pub(crate) fn write_idle(out: &mut String, slot: u64, owner: usize) -> Result<(), AllocError>
     ensures { OnOk result (string_bytes out.new ≡ string_bytes out.old ++ idle_line slot owner) }
 {
-    stored(write!(out, "{slot} {owner} idle -\n"))
+    write!(out, "{slot} {owner} idle -\n")
 }
 
 // A slot with a deed on a line.
@@ -63,7 +52,7 @@ pub(crate) fn write_slot(
 ) -> Result<(), AllocError>
     ensures { OnOk result (string_bytes out.new ≡ string_bytes out.old ++ slot_line slot owner deed.now line) }
 {
-    stored(write!(out, "{slot} {owner} {deed} {line}\n"))
+    write!(out, "{slot} {owner} {deed} {line}\n")
 }
 
 // A load or store that is posted.
@@ -76,7 +65,7 @@ pub(crate) fn write_wait(
     ensures { OnOk result (string_bytes out.new ≡ string_bytes out.old ++ wait_line call board line) }
 {
     let letter = call.letter();
-    stored(write!(out, "{letter} {board} {line} wait\n"))
+    write!(out, "{letter} {board} {line} wait\n")
 }
 
 // A load or store that the copy answers, with the word of it.
@@ -90,21 +79,21 @@ pub(crate) fn write_hit(
     ensures { OnOk result (string_bytes out.new ≡ string_bytes out.old ++ hit_line call board line word) }
 {
     let letter = call.letter();
-    stored(write!(out, "{letter} {board} {line} hit {word}\n"))
+    write!(out, "{letter} {board} {line} hit {word}\n")
 }
 
 // A replacement that is accepted.
 pub(crate) fn write_replaced(out: &mut String, board: u8, line: u8) -> Result<(), AllocError>
     ensures { OnOk result (string_bytes out.new ≡ string_bytes out.old ++ replaced_line board line) }
 {
-    stored(write!(out, "R {board} {line} ok\n"))
+    write!(out, "R {board} {line} ok\n")
 }
 
 // A guard that is accepted.
 pub(crate) fn write_guarded(out: &mut String, line: u8) -> Result<(), AllocError>
     ensures { OnOk result (string_bytes out.new ≡ string_bytes out.old ++ guarded_line line) }
 {
-    stored(write!(out, "K {line} ok\n"))
+    write!(out, "K {line} ok\n")
 }
 
 // A request that is collected: its result and its waited count.
@@ -116,7 +105,7 @@ pub(crate) fn write_collected(
 ) -> Result<(), AllocError>
     ensures { OnOk result (string_bytes out.new ≡ string_bytes out.old ++ collected_line board word waited) }
 {
-    stored(write!(out, "C {board} {word} {waited}\n"))
+    write!(out, "C {board} {word} {waited}\n")
 }
 
 // A call that is rejected: the first number of its line, and the refusal's.
@@ -129,7 +118,7 @@ pub(crate) fn write_refused(
     ensures { OnOk result (string_bytes out.new ≡ string_bytes out.old ++ refused_line call first refusal) }
 {
     let letter = call.letter();
-    stored(write!(out, "{letter} {first} refused {refusal}\n"))
+    write!(out, "{letter} {first} refused {refusal}\n")
 }
 
 // The answer of a load or a store.
@@ -213,9 +202,9 @@ pub(crate) fn write_fault(out: &mut String, line: u32, fault: LineFault) -> Resu
     match fault {
         LineFault::Schedule(refusal) => {
             let refusal = refusal.number();
-            stored(write!(out, "fault {line} {cause} {refusal}\n"))
+            write!(out, "fault {line} {cause} {refusal}\n")
         }
-        _ => stored(write!(out, "fault {line} {cause}\n")),
+        _ => write!(out, "fault {line} {cause}\n"),
     }
 }
 

@@ -16,4 +16,4 @@ returns g c =
     let same = made ∙ window_begun l (64 - l) c.over.result.words.now (s.owners v) (s.count v) (s.span v) c.lines-lines.ensures.few refl c.over.ensures.words in
     let trace = c.args.trace.now in
     let setup = c.args.setup.now in
-    listed_from c.list-on.result (length trace ≤ 32768) (string_bytes c.args.out.now) (string_bytes c.list-on.new.out) setup.line (pieces 10 (drop setup.used trace)) (same ∙ ap (λ n. begun n (s.count v) (s.span v) (s.owners v)) c.lines-lines.ensures.value) c.list-on.ensures
+    listed_from c.list_on.result (length trace ≤ 32768) (string_bytes c.args.out.now) (string_bytes c.list_on.new.out) setup.line (pieces 10 (drop setup.used trace)) (same ∙ ap (λ n. begun n (s.count v) (s.span v) (s.owners v)) c.lines-lines.ensures.value) c.list_on.ensures

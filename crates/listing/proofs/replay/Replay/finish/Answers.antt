@@ -8,4 +8,4 @@ lines-preserved g c =
     let r' = c.step.new.self in
     let out = string_bytes c.lines.out in
     let left = coming g.S.Schedule g.M.LineMemory r' in
-    ap (λ t. t ++ left) c.in-ok-step.ensures.text ∙ append_assoc out (piece g.S.Schedule g.M.LineMemory r) left ∙ sym (ap (λ t. out ++ t) c.in-ok-step.ensures.rest) ∙ c.lines.invariant
+    ap (λ t. t ++ left) c.in_ok-step.ensures.text ∙ append_assoc out (piece g.S.Schedule g.M.LineMemory r) left ∙ sym (ap (λ t. out ++ t) c.in_ok-step.ensures.rest) ∙ c.lines.invariant

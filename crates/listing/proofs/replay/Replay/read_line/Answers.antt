@@ -7,16 +7,16 @@ use Rattle.listing.specs.Sessions.{stand_of}
 use Rattle.listing.proofs.Replays.{end_rest, end_text, line_rest, line_text, obeyed_onward, obeyed_print, silent, stopped_onward, stopped_print, told}
 use Rattle.listing.proofs.replay.Replay.read_line.Goals as goal
 
-pub returns-in-default : goal.returns-in-default
-returns-in-default g c =
+pub returns-in_default : goal.returns-in_default
+returns-in_default g c =
     let r = c.args.self.now in
     let s = stand_of g.S.Schedule g.M.LineMemory r.session in
     let t = string_bytes c.args.out.now in
     let t' = string_bytes c.end.new.out in
-    let none = sym c.cut.ensures.rest ∙ ap (option_map (λ x. x.now)) c.in-default.is in
+    let none = sym c.cut.ensures.rest ∙ ap (option_map (λ x. x.now)) c.in_default.is in
     let over = silent c.end.new.self.over _ c.end.ensures.over in
     record {
-      text = end_text r.over r.line s r.rest.now c.cut.result.0.now t t' c.requires c.cut.ensures.first none c.in-ok-end.ensures.text;
+      text = end_text r.over r.line s r.rest.now c.cut.result.0.now t t' c.requires c.cut.ensures.first none c.in_ok-end.ensures.text;
       rest = end_rest r.over r.line s r.rest.now c.cut.result.0.now t t' c.requires c.cut.ensures.first none _ over;
       over = λ _. over;
       less = search rules;
@@ -41,8 +41,8 @@ returns-in-Ok g c =
       less = search rules;
     }
 
-pub returns-in-ok-fail : goal.returns-in-ok-fail
-returns-in-ok-fail g c =
+pub returns-in_ok-fail-in-Err : goal.returns-in_ok-fail-in-Err
+returns-in_ok-fail-in-Err g c =
     let r = c.args.self.now in
     let s = stand_of g.S.Schedule g.M.LineMemory r.session in
     let s' = stand_of g.S.Schedule g.M.LineMemory c.obey.new.self in
@@ -53,7 +53,7 @@ returns-in-ok-fail g c =
     let more = c.in-Some.rest.now in
     let some = sym c.cut.ensures.rest ∙ ap (option_map (λ x. x.now)) c.in-Some.is in
     let obeyed = c.in-Err.ensures.obeys in
-    let stopped = c.in-ok-fail.ensures.text in
+    let stopped = c.in_ok-fail-in-Err.ensures.text in
     let over = silent c.fail.new.self.over _ c.fail.ensures.over in
     record {
       text = line_text r.over r.line s r.rest.now line t t'' c.requires c.cut.ensures.first more some (stopped_print r.line c.in-Err.fault (call_order line) s s' t t' t'' obeyed stopped);

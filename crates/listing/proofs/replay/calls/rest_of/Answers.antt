@@ -1,4 +1,4 @@
-use Rattle.std.proofs.Common.{◌≡◌, ℕ, ◌≤◌, List, length, drop, sym, subst, arith, lit≤, length-drop, rules}
+use Rattle.std.proofs.Common.{ℕ, ◌≤◌, List, length, sym, subst, arith, lit≤, length-drop}
 use Rattle.std.proofs.lemmas.List.{drop_all, take_rest}
 use Rattle.listing.proofs.replay.calls.rest_of.Goals as goal
 
