@@ -1,3 +1,5 @@
+#![tactic(auto)]
+
 // The table and the roles of the states, compared with their printed forms.
 #[cfg(test)]
 mod tests {

@@ -1,3 +1,5 @@
+#![tactic(auto)]
+
 // Scripts of calls, with the answers that the rules give.
 #[cfg(test)]
 mod tests {

@@ -1,3 +1,5 @@
+#![tactic(auto)]
+
 // Each memory against a plain list of words, on tables of cases.
 #[cfg(test)]
 mod tests {

@@ -1,4 +1,6 @@
 // Reads a trace from standard input, and writes its listing.
+#![tactic(auto)]
+
 use listing::bus::BusSchedule;
 use listing::replay::Replay;
 use listing::setup::Setup;

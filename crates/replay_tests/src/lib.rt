@@ -1,3 +1,5 @@
+#![tactic(auto)]
+
 // Tables of cases: schedules, and traces with their listings.
 #[cfg(test)]
 mod tests {
