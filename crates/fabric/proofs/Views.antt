@@ -6,7 +6,7 @@ use Rattle.rules.specs.Boards as rules
 use Rattle.rules.specs.Boards.{change}
 use Rattle.rules.specs.Cells.{Cells, board_at, key_at, row_at, size_of, with_board, with_boards, with_key, with_row, with_word, word_at}
 use Rattle.fabric.specs.declared.board.Board.{Board}
-use Rattle.fabric.specs.declared.core.Core.{Core}
+use Rattle.fabric.specs.declared.fabric_core.Core.{Core}
 use Rattle.fabric.specs.declared.queue.Queue.{Queue}
 use Rattle.fabric.specs.Boards.{board_of, boards_of, rows_of}
 use Rattle.fabric.specs.Queues.{row}

@@ -2,7 +2,7 @@
 use Rattle.std.specs.Prelude.{ℕ, List, slice_index}
 use Rattle.memory.specs.declared.interface.LineMemory as memory
 use Rattle.rules.specs.Cells.{Cells}
-use Rattle.fabric.specs.declared.core.Core.{Core}
+use Rattle.fabric.specs.declared.fabric_core.Core.{Core}
 use Rattle.fabric.specs.Boards.{boards_of, rows_of}
 
 unfoldable pub keys_of : List ℕ → ℕ → ℕ

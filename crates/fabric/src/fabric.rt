@@ -1,5 +1,5 @@
 // A fabric over any schedule and any memory.
-use crate::core::Core;
+use crate::fabric_core::Core;
 
 pub mod calls;
 pub mod questions;

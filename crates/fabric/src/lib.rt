@@ -4,7 +4,7 @@
 pub mod answer;
 pub mod board;
 mod boards;
-pub mod core;
 pub mod fabric;
+pub mod fabric_core;
 pub mod queue;
 mod rows;

@@ -4,8 +4,8 @@ ghost use Rattle.rules.specs.Calls.{collect, fresh, guard, load, replace, says, 
 ghost use Rattle.fabric.specs.Worlds.{done_of, got_of, replied_of, report_of, world};
 
 use crate::answer::{Collected, Reply, SlotReport};
-use crate::core::Core;
 use crate::fabric::Fabric;
+use crate::fabric_core::Core;
 use memory::interface::LineMemory;
 use rules::kind::Kind;
 use rules::refusal::Refusal;

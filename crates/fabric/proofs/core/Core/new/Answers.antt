@@ -1,5 +1,0 @@
-use Rattle.fabric.proofs.Made.{new_view}
-use Rattle.fabric.proofs.core.Core.new.Goals as goal
-
-pub returns : goal.returns
-returns g c = new_view g.M.LineMemory c.args.memory c.new-none.result c.new-none.ensures

@@ -1,0 +1,48 @@
+// The tables of a fabric just made.
+ghost use Rattle.std.specs.Prelude.{◌≡◌};
+ghost use Rattle.rules.specs.Calls.{empty};
+ghost use Rattle.fabric.specs.Views.{view};
+
+use crate::board::{Board, LineRecord};
+use crate::fabric_core::Core;
+use crate::queue::Queue;
+use copystate::states::State;
+use memory::interface::LineMemory;
+use rules::kind::LastDeed;
+
+impl<M: LineMemory> Core<M> {
+    pub(crate) fn new(memory: M) -> Core<M>
+        ensures { view M.LineMemory result ≡ empty (M.LineMemory.words memory) (M.LineMemory.size memory) }
+    {
+        let none = Queue::new();
+        let line = LineRecord {
+            state: State::I,
+            word: 0,
+        };
+        let board = Board {
+            lines: [line; 64],
+            request: None,
+            write_backs: none,
+            last: LastDeed::WriteBack,
+            marked: None,
+        };
+        Core {
+            boards: [board; 16],
+            rows: [none; 64],
+            keys: [0; 64],
+            memory,
+        }
+    }
+
+    pub(crate) fn into_memory(self) -> M
+        ensures { result ≡ self.memory }
+    {
+        let Core {
+            boards: _,
+            rows: _,
+            keys: _,
+            memory,
+        } = self;
+        memory
+    }
+}
