@@ -1,5 +1,5 @@
 -- The book: it is fed only calls and their answers, and tells the words that loads must see and how long requests have waited.
-use Rattle.std.specs.Prelude.{◌≡◌, ℕ, ◌+◌, Bool, true, false, List, [], ◌∷◌}
+use Rattle.std.specs.Prelude.{◌≡◌, ℕ, ◌+◌, Bool, true, false}
 use Rattle.rules.specs.declared.deed.Deed.{Deed}
 use Rattle.rules.specs.declared.deed.Deed.TheVariants.{Idle, GetS, GetM, GetSServed, GetMServed, Upg, Data, PutM}
 use Rattle.rules.specs.declared.kind.Kind.{Kind}

@@ -1,1 +1,3 @@
+#![tactic(auto)]
+
 // What every run of a fabric keeps.

@@ -1,5 +1,5 @@
 -- The calls are the same by boards and by lines.
-use Rattle.std.proofs.Common.{◌≡◌, ℕ, zero, suc, ◌+◌, ◌<◌, ◌≤◌, Bool, true, false, cond, eqb, ◌≢◌, ◌⊎◌, List, [], ◌∷◌, ◌++◌, length, Some, None, sym, refl, ap, ◌∙◌, inl, inr}
+use Rattle.std.proofs.Common.{◌≡◌, ℕ, suc, ◌<◌, Bool, true, false, cond, eqb, length, Some, sym, refl, ap, ◌∙◌, inl, inr}
 use Rattle.std.proofs.lemmas.Bool.{cases_eq, cond-false}
 use Rattle.copystate.specs.States.{modified, state_code}
 use Rattle.copystate.specs.declared.events.Event.TheVariants.{PostStore, Replace}
@@ -11,7 +11,7 @@ use Rattle.rules.specs.Cells.{Cells, board_at, with_board, with_boards, with_key
 use Rattle.rules.specs.Calls as calls
 use Rattle.coherence.proofs.Line.Sound.{update}
 use Rattle.coherence.proofs.Line.Sends.{update_other, update_same}
-use Rattle.coherence.proofs.Runs.Reading.{Board, Line, Reading}
+use Rattle.coherence.proofs.Runs.Reading.{Board}
 use Rattle.coherence.proofs.Runs.Changes as changes
 use Rattle.coherence.proofs.Runs.Changes.{mark_board, post_line, replace_line}
 use Rattle.coherence.proofs.Runs.Each.{change_other, change_same}

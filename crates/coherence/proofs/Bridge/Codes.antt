@@ -1,7 +1,7 @@
 -- What the codes say is what the states say.
-use Rattle.std.proofs.Common.{◌≡◌, ℕ, ◌<◌, Bool, true, false, cond, not, ◌&&◌, eqb, ltb, sym, refl, ap, ◌∙◌}
+use Rattle.std.proofs.Common.{◌≡◌, ℕ, ◌<◌, false, cond, not, ◌&&◌, eqb, ltb, sym, refl, ap}
 use Rattle.std.proofs.lemmas.Bool.{eqb-true, ltb-true, not-true}
-use Rattle.copystate.specs.States.{state_code, copies, holds, loads, modified, stores, upgrades, waits}
+use Rattle.copystate.specs.States.{state_code, copies, holds, loads, stores, upgrades, waits}
 use Rattle.copystate.specs.Events.{event_code}
 use Rattle.copystate.specs.Truth.{every, implies, same}
 use Rattle.copystate.specs.Soundness.{events}
@@ -12,7 +12,6 @@ use Rattle.copystate.proofs.Checked.{at_event, at_state}
 use Rattle.copystate.proofs.Truths.{from_implies, from_same}
 use Rattle.rules.specs.Boards.{begins, kept, next}
 use Rattle.coherence.proofs.Line.Codes as codes
-use Rattle.coherence.proofs.Runs.Changes as changes
 use Rattle.coherence.proofs.Runs.Reading.{keep}
 
 pub code_small : (s : State) → state_code s < 11

@@ -1,5 +1,5 @@
 -- The deeds of a slot are the same by boards and by lines.
-use Rattle.std.proofs.Common.{◌≡◌, ℕ, zero, suc, ◌+◌, ◌-◌, ◌^◌, ◌<◌, ◌≤◌, min, Bool, true, false, cond, ◌&&◌, eqb, ltb, ◌≢◌, ◌⊎◌, List, [], ◌∷◌, ◌++◌, length, drop, Some, None, Option, sym, refl, ap, ◌∙◌, inl, inr, arith}
+use Rattle.std.proofs.Common.{◌≡◌, ℕ, suc, ◌+◌, ◌-◌, ◌^◌, ◌<◌, ◌≤◌, true, false, cond, ◌&&◌, eqb, ltb, ◌≢◌, length, drop, Some, None, Option, sym, refl, ap, ◌∙◌, inl, inr, arith}
 use Rattle.std.proofs.lemmas.Bool.{and_from, cases_eq, cases_lt, cond-true, cond-false, eq-eqb, ne_eqb, lt-ltb}
 use Rattle.copystate.specs.States.{state_code}
 use Rattle.copystate.specs.Events.{event_code}
@@ -8,11 +8,10 @@ use Rattle.copystate.specs.declared.states.State.TheVariants.{I}
 use Rattle.copystate.specs.declared.events.Event.{Event}
 use Rattle.copystate.specs.declared.events.Event.TheVariants.{OtherUpg}
 use Rattle.rules.specs.declared.kind.Kind.{Kind}
-use Rattle.rules.specs.declared.kind.Kind.TheVariants.{Load, Store}
-use Rattle.rules.specs.declared.kind.LastDeed.TheVariants.{WriteBack, Request}
+use Rattle.rules.specs.declared.kind.Kind.TheVariants.{Store}
 use Rattle.rules.specs.Boards as rules
 use Rattle.rules.specs.Boards.{Place, free, sent, served, begins, blank, change, kept, lays, lifts, moves, next, pushed}
-use Rattle.rules.specs.Cells.{Cells, board_at, but_for, each, joins, row_at, snoops, with_board, with_boards, with_row}
+use Rattle.rules.specs.Cells.{Cells, board_at, row_at, snoops, with_board, with_boards, with_row}
 use Rattle.rules.specs.Slots.{sends_out, upgrades_to}
 use Rattle.coherence.proofs.Line.Codes as codes
 use Rattle.coherence.proofs.Line.Sound.{snoop, update}
@@ -20,11 +19,11 @@ use Rattle.coherence.proofs.Line.Sends.{snoop_other, snoop_own, update_other, up
 use Rattle.coherence.proofs.Runs.Reading as reading
 use Rattle.coherence.proofs.Runs.Reading.{Board, Line, Reading, ask_board, keep, push_board, send_line, upg_line, with_list}
 use Rattle.coherence.proofs.Runs.Each.{change_other, change_same}
-use Rattle.coherence.proofs.Bridge.Codes.{calm_other_upg, calm_own_upg, kept_code, next_code}
-use Rattle.coherence.proofs.Bridge.Readings.{Beside, asked_of, board_of, change_kept, each_above, each_below, line_of, mark_of, reading, reads}
+use Rattle.coherence.proofs.Bridge.Codes.{calm_other_upg, calm_own_upg}
+use Rattle.coherence.proofs.Bridge.Readings.{asked_of, board_of, each_above, each_below, line_of, mark_of, reading}
 use Rattle.copystate.specs.declared.events.Event.TheVariants.{OwnData, OwnPutM, OwnUpg}
 use Rattle.rules.specs.Boards.{ages, asks, gets, gives, longer, older, posted, result_of, unmarked}
-use Rattle.rules.specs.Cells.{aged, leaves, with_word, word_at}
+use Rattle.rules.specs.Cells.{aged, with_word, word_at}
 use Rattle.rules.specs.Slots.{puts_back, serves}
 use Rattle.memory.specs.Interface.{written}
 use Rattle.coherence.proofs.Runs.Reading.{age_board, put_board, put_line, serve_line}

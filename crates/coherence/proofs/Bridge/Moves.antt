@@ -1,26 +1,20 @@
 -- What a board does at a line, and what the others hear, read line by line.
-use Rattle.std.proofs.Common.{◌≡◌, ℕ, zero, suc, ◌+◌, ◌<◌, ◌≤◌, Bool, true, false, cond, eqb, ltb, ◌≢◌, ◌⊎◌, List, [], ◌∷◌, ◌++◌, length, Some, None, sym, refl, ap, ◌∙◌, inl, inr, arith}
+use Rattle.std.proofs.Common.{◌≡◌, ℕ, ◌<◌, ◌≤◌, Bool, true, false, cond, eqb, ltb, ◌≢◌, List, [], ◌∷◌, ◌++◌, length, None, sym, refl, ap, ◌∙◌, inl, inr}
 use Rattle.std.proofs.lemmas.Bool.{cases_eq, cases_lt, cond-true, cond-false, eq-eqb, ne_eqb, lt-ltb}
 use Rattle.copystate.specs.States.{state_code}
 use Rattle.copystate.specs.Events.{event_code}
-use Rattle.copystate.specs.declared.states.State.{State}
 use Rattle.copystate.specs.declared.states.State.TheVariants.{I}
 use Rattle.copystate.specs.declared.events.Event.{Event}
-use Rattle.copystate.specs.declared.events.Event.TheVariants.{OtherUpg}
-use Rattle.rules.specs.declared.kind.Kind.{Kind}
-use Rattle.rules.specs.declared.kind.Kind.TheVariants.{Load, Store}
-use Rattle.rules.specs.declared.kind.LastDeed.TheVariants.{WriteBack, Request}
+use Rattle.rules.specs.declared.kind.LastDeed.TheVariants.{WriteBack}
 use Rattle.rules.specs.Boards as rules
 use Rattle.rules.specs.Boards.{Place, free, sent, served, begins, blank, change, kept, lays, lifts, moves, next, pushed}
-use Rattle.rules.specs.Cells.{Cells, board_at, but_for, each, joins, row_at, snoops, with_board, with_boards, with_row}
-use Rattle.rules.specs.Slots.{sends_out, upgrades_to}
+use Rattle.rules.specs.Cells.{Cells, but_for, snoops, with_boards}
 use Rattle.coherence.proofs.Line.Codes as codes
-use Rattle.coherence.proofs.Line.Sound.{snoop, update}
-use Rattle.coherence.proofs.Line.Sends.{snoop_other, snoop_own, update_other, update_same}
-use Rattle.coherence.proofs.Runs.Reading as reading
-use Rattle.coherence.proofs.Runs.Reading.{Board, Line, Reading, ask_board, keep, push_board, send_line, upg_line, with_list}
+use Rattle.coherence.proofs.Line.Sound.{update}
+use Rattle.coherence.proofs.Line.Sends.{update_other, update_same}
+use Rattle.coherence.proofs.Runs.Reading.{Board, Line, keep, push_board, with_list}
 use Rattle.coherence.proofs.Runs.Each.{change_other, change_same}
-use Rattle.coherence.proofs.Bridge.Codes.{calm_other_upg, calm_own_upg, kept_code, next_code}
+use Rattle.coherence.proofs.Bridge.Codes.{kept_code, next_code}
 use Rattle.coherence.proofs.Bridge.Readings.{Beside, asked_of, board_of, change_kept, each_above, each_below, line_of, mark_of, reading, reads}
 
 -- nothing has happened to boards that there are not

@@ -1,15 +1,15 @@
 -- A slot is the same by boards and by lines.
-use Rattle.std.proofs.Common.{◌≡◌, ℕ, zero, suc, ◌+◌, ◌<◌, ◌≤◌, Bool, true, false, cond, not, ◌&&◌, ◌||◌, eqb, ltb, ◌≢◌, ◌⊎◌, List, [], ◌∷◌, ◌++◌, length, Some, None, sym, refl, ap, ◌∙◌, subst, inl, inr, arith, length-append}
+use Rattle.std.proofs.Common.{◌≡◌, ℕ, zero, suc, ◌+◌, ◌<◌, ◌≤◌, Bool, true, false, cond, not, ◌&&◌, ◌||◌, eqb, ltb, ◌≢◌, List, [], ◌∷◌, ◌++◌, length, Some, sym, refl, ap, ◌∙◌, subst, inl, inr, arith, length-append}
 use Rattle.std.specs.List.{AllByRecursion as All}
-use Rattle.std.proofs.lemmas.Bool.{and_parts, cases_Bool, cases_eq, cases_lt, cond-true, eq-eqb, ne_eqb, eqb-true, lt-ltb, false≢true, true≢false}
-use Rattle.copystate.specs.States.{holds, state_code, upgrades}
+use Rattle.std.proofs.lemmas.Bool.{and_parts, cases_Bool, cases_eq, cases_lt, eq-eqb, ne_eqb, eqb-true, lt-ltb}
+use Rattle.copystate.specs.States.{holds, state_code}
 use Rattle.copystate.specs.Events.{event_code}
 use Rattle.copystate.specs.declared.states.State.{State}
 use Rattle.copystate.specs.declared.events.Event.{Event}
 use Rattle.copystate.specs.declared.states.State.TheVariants.{I}
-use Rattle.copystate.specs.declared.events.Event.TheVariants.{SendGetS, SendGetM, OtherGetS, OtherGetM, OtherUpg}
+use Rattle.copystate.specs.declared.events.Event.TheVariants.{SendGetS, SendGetM, OtherGetS, OtherGetM}
 use Rattle.rules.specs.declared.deed.Deed.{Deed}
-use Rattle.rules.specs.declared.deed.Deed.TheVariants.{Idle, GetS, GetM, GetSServed, GetMServed, Upg, Data, PutM}
+use Rattle.rules.specs.declared.deed.Deed.TheVariants.{GetS, GetM, GetSServed, GetMServed, Upg, Data, PutM}
 use Rattle.rules.specs.declared.kind.Kind.{Kind}
 use Rattle.rules.specs.declared.kind.Kind.TheVariants.{Load, Store}
 use Rattle.rules.specs.declared.kind.LastDeed.{LastDeed}

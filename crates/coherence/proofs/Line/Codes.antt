@@ -1,5 +1,5 @@
 -- The copy states' table, by codes, and what a state is.
-use Rattle.std.proofs.Common.{ℕ, zero, suc, Bool, true, false, cond, not, ◌&&◌, ◌||◌, eqb, List, [], ◌∷◌, get_or}
+use Rattle.std.proofs.Common.{ℕ, List, [], ◌∷◌, get_or}
 
 unfoldable pub table : List (List ℕ)
 table =

@@ -1,12 +1,12 @@
 -- What one board does alone keeps a line sound: posting, replacement, data, PutM.
-use Rattle.std.proofs.Common.{◌≡◌, ℕ, zero, suc, ◌+◌, ◌<◌, ◌≤◌, Bool, true, false, cond, ◌&&◌, T, eqb, leb, ◌≢◌, ◌⊎◌, List, [], ◌∷◌, ◌++◌, length, sym, refl, ap, ◌∙◌, subst, inl, inr, arith, lit<, length-append}
+use Rattle.std.proofs.Common.{◌≡◌, ℕ, ◌<◌, true, cond, eqb, ◌≢◌, List, [], ◌∷◌, sym, refl, ap, ◌∙◌, subst, inl, inr, arith, lit<}
 use Rattle.std.specs.List.{AllByRecursion as All}
 use Rattle.coherence.proofs.Turns.Counts.{occurs}
-use Rattle.std.proofs.lemmas.Bool.{cases_eq, cases_Bool, cond-true, cond-false, eq-eqb, ne_eqb, eqb-true}
-use Rattle.coherence.proofs.Line.Codes.{table, next, flag, holds, copies, waits, writes, wants, gives}
-use Rattle.coherence.proofs.Line.Sound.{snoop, update, imp, Sound, Ordered, fits, before, Single}
+use Rattle.std.proofs.lemmas.Bool.{cases_eq, cond-true, cond-false, eq-eqb, ne_eqb, eqb-true}
+use Rattle.coherence.proofs.Line.Codes.{table, next, holds, copies, waits, writes, wants}
+use Rattle.coherence.proofs.Line.Sound.{snoop, update, Sound, Ordered, fits, before}
 use Rattle.coherence.proofs.Line.Tables.{fits_put, fits_data, fits_sym, data_small, waits_one, fits_upg, imp_from}
-use Rattle.coherence.proofs.Line.Sends.{update_same, update_other, all_absent, all_met, all_occurs, snoop_own, snoop_other}
+use Rattle.coherence.proofs.Line.Sends.{update_same, update_other, all_absent, all_occurs, snoop_own, snoop_other}
 
 module _ (x : ℕ → ℕ) (b t : ℕ) where
   alls : (s : ℕ) (r : List ℕ) → All (λ c. c ≢ b) r → All (λ c. before s (x c) ≡ true) r → All (λ c. before s (update x b t c) ≡ true) r

@@ -1,10 +1,10 @@
 -- A send keeps a line sound.
-use Rattle.std.proofs.Common.{◌≡◌, ℕ, zero, suc, ◌+◌, ◌<◌, ◌≤◌, Bool, true, false, cond, ◌&&◌, T, eqb, leb, ◌≢◌, ◌⊎◌, List, [], ◌∷◌, ◌++◌, length, sym, refl, ap, ◌∙◌, subst, inl, inr, arith, lit<, length-append}
+use Rattle.std.proofs.Common.{◌≡◌, ℕ, ◌+◌, ◌<◌, ◌≤◌, Bool, true, false, cond, eqb, ◌≢◌, List, [], ◌∷◌, ◌++◌, sym, refl, ◌∙◌, subst, inl, inr, arith, lit<, length-append}
 use Rattle.std.specs.List.{AllByRecursion as All}
 use Rattle.coherence.proofs.Turns.Counts.{occurs}
 use Rattle.std.proofs.lemmas.Bool.{cases_eq, cond-true, cond-false, eq-eqb, ne_eqb, true≢false, false≢true}
-use Rattle.std.proofs.ByRecursion.{All-push, All-weaker}
-use Rattle.coherence.proofs.Line.Codes.{table, next, flag, holds, copies, waits, writes, wants, gives}
+use Rattle.std.proofs.ByRecursion.{All-push}
+use Rattle.coherence.proofs.Line.Codes.{table, next, waits, gives}
 use Rattle.coherence.proofs.Line.Sound.{snoop, update, Sound, Ordered, fits, before, Single, SendKeeps}
 use Rattle.coherence.proofs.Line.Tables.{fits_after, fits_sent, fits_sym, waits_after, before_after, before_sent, fits_single, waits_one, gives_le}
 

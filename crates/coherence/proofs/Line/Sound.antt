@@ -1,8 +1,8 @@
 -- One line: each board's state, and the waiting row.
-use Rattle.std.proofs.Common.{◌≡◌, ℕ, zero, suc, ◌+◌, ◌<◌, ◌≤◌, Bool, true, false, cond, not, ◌&&◌, ◌||◌, eqb, leb, ◌≢◌, List, [], ◌∷◌, ◌++◌, length}
+use Rattle.std.proofs.Common.{◌≡◌, ℕ, ◌<◌, ◌≤◌, Bool, true, false, cond, not, ◌&&◌, ◌||◌, eqb, ◌≢◌, List, [], ◌∷◌, ◌++◌, length}
 use Rattle.std.specs.List.{AllByRecursion as All}
 use Rattle.coherence.proofs.Turns.Counts.{occurs}
-use Rattle.coherence.proofs.Line.Codes.{next, holds, copies, waits, wants, writes, gives}
+use Rattle.coherence.proofs.Line.Codes.{next, holds, copies, waits, wants, gives}
 
 -- f, but a at i
 abbrev pub update : {A : Type 0} → (ℕ → A) → ℕ → A → ℕ → A

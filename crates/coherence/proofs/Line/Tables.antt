@@ -1,8 +1,8 @@
 -- A rule of the table proved at all of its entries by one test that antt computes.
-use Rattle.std.proofs.Common.{◌≡◌, ℕ, zero, suc, ◌+◌, ◌<◌, ◌≤◌, Bool, true, false, cond, ◌&&◌, T, eqb, ltb, leb, ◌⊎◌, sym, refl, ap, ◌∙◌, subst, inl, inr, le_of_suc-le-suc, not-suc-le-zero, arith}
+use Rattle.std.proofs.Common.{◌≡◌, ℕ, zero, suc, ◌+◌, ◌<◌, ◌≤◌, Bool, true, false, ◌&&◌, eqb, ltb, leb, sym, refl, subst, inl, inr, not-suc-le-zero, arith}
 use Rattle.std.proofs.lemmas.Bool.{and_parts, and_from, cases_eq, eqb-true, leb-true, ltb-true, eq-eqb, false≢true}
 use Rattle.coherence.proofs.Line.Sound.{imp, fits, before}
-use Rattle.coherence.proofs.Line.Codes.{table, next, flag, holds, copies, waits, writes, wants, gives}
+use Rattle.coherence.proofs.Line.Codes.{table, next, holds, copies, waits, writes, wants, gives}
 
 -- the test passes at each number below n
 abbrev pub every : ℕ → (ℕ → Bool) → Bool

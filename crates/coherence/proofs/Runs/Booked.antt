@@ -1,9 +1,9 @@
 -- The book tells every answer.
-use Rattle.std.proofs.Common.{◌≡◌, ℕ, zero, suc, ◌+◌, ◌*◌, ◌<◌, ◌≤◌, Bool, true, false, cond, not, ◌&&◌, ◌||◌, eqb, ltb, ◌≢◌, ◌⊎◌, List, [], ◌∷◌, ◌++◌, length, drop, Some, sym, refl, ap, ◌∙◌, subst, inl, inr, arith, lit<}
-use Rattle.std.proofs.lemmas.Bool.{cases_eq, cond-true, cond-false, eq-eqb, ne_eqb, eqb-true, and_parts, not-true, false≢true, ltb-true}
-use Rattle.coherence.proofs.Line.Codes.{table, next, holds, copies, waits, writes, wants}
-use Rattle.coherence.proofs.Line.Sound.{update, snoop, Sound}
-use Rattle.coherence.proofs.Line.Sends.{update_same, update_other, snoop_own, snoop_other, single}
+use Rattle.std.proofs.Common.{◌≡◌, ℕ, ◌+◌, ◌<◌, Bool, true, false, not, ◌&&◌, eqb, ◌≢◌, List, [], ◌∷◌, Some, sym, refl, ap, ◌∙◌, subst, inl, inr, arith, lit<}
+use Rattle.std.proofs.lemmas.Bool.{cases_eq, cond-true, eq-eqb, eqb-true, and_parts, not-true}
+use Rattle.coherence.proofs.Line.Codes.{table, next, holds, copies, writes}
+use Rattle.coherence.proofs.Line.Sound.{update, Sound}
+use Rattle.coherence.proofs.Line.Sends.{update_same, update_other}
 use Rattle.rules.specs.declared.kind.Kind.{Kind}
 use Rattle.rules.specs.declared.kind.Kind.TheVariants.{Load, Store}
 use Rattle.rules.specs.declared.deed.Deed.{Deed}
@@ -11,16 +11,14 @@ use Rattle.rules.specs.declared.deed.Deed.TheVariants.{GetS, GetSServed, GetM, G
 use Rattle.rules.specs.Boards.{Place, free, posted, sent, served}
 use Rattle.rules.specs.Boards.{result_of}
 use Rattle.rules.specs.Cells.{is_empty}
-use Rattle.coherence.proofs.Runs.Reading.{Board, Line, Reading, Did, older, aged, age_board, ask_board, push_board, put_board, with_list, sends, send_line, serves, serve_line, puts, put_line, upgrades, upg_line, due, held, ready, is_first, requests, sends_too, writes_back, acts, slot}
-use Rattle.coherence.proofs.Runs.Changes.{post, hitting, clear, hits}
-use Rattle.rules.specs.Boards.{change}
-use Rattle.coherence.specs.Book.{Book, Note, counted, longer_by, none, noting, serving, settled, settles, slotted, unserved, worded}
-use Rattle.coherence.proofs.Runs.Good.{pend, agrees, Cell, Good, unsent_fits, sent_fits}
+use Rattle.coherence.proofs.Runs.Reading.{Board, Line, Reading, Did, older, aged, age_board, ask_board, push_board, put_board, with_list, sends, serves, serve_line, puts, upgrades, upg_line, due, held, ready, is_first, requests, sends_too, writes_back, acts, slot}
+use Rattle.coherence.specs.Book.{Book, Note, counted, longer_by, none, serving, settled, settles, slotted, unserved, worded}
+use Rattle.coherence.proofs.Runs.Good.{agrees, Good, unsent_fits, sent_fits}
 use Rattle.coherence.proofs.Runs.Each.{change_other, change_same, each}
-use Rattle.coherence.proofs.Runs.Facts.{Sent, own_get_s, own_get_m, sender_copies, sender_holds, sender_small, act_of, writes_holds, holds_le, holds_copies, sound_get_s, sound_get_m, post_copies, post_store, Posted}
+use Rattle.coherence.proofs.Runs.Facts.{own_get_s, own_get_m, sender_copies, sender_holds, sender_small, act_of, writes_holds, holds_le, holds_copies, sound_get_s, sound_get_m}
 use Rattle.coherence.proofs.Runs.Steps.{aged_keeps, sends_keeps, none_holds, has_copy}
-use Rattle.coherence.proofs.Runs.Slots.{first_is, empty_is, unsent}
-use Rattle.coherence.proofs.Runs.Values.{Fresh, fresh_sent, fresh_put, fresh_served, fresh_upg, fresh_hit}
+use Rattle.coherence.proofs.Runs.Slots.{empty_is, unsent}
+use Rattle.coherence.proofs.Runs.Values.{Fresh, fresh_sent, fresh_put, fresh_served, fresh_upg}
 
 -- what the book has of a request
 abbrev pub view : Place → Note

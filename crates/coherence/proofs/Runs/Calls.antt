@@ -1,10 +1,8 @@
 -- The board calls keep what every run keeps.
-use Rattle.std.proofs.Common.{◌≡◌, ℕ, zero, suc, ◌+◌, ◌*◌, ◌<◌, ◌≤◌, Bool, true, false, cond, not, ◌&&◌, ◌||◌, eqb, ◌≢◌, ◌⊎◌, List, [], ◌∷◌, ◌++◌, length, drop, sym, refl, ap, ◌∙◌, subst, inl, inr, arith, lit<}
-use Rattle.std.proofs.lemmas.Bool.{cases_eq, cond-true, cond-false, eq-eqb, ne_eqb, eqb-true}
-use Rattle.coherence.proofs.Turns.Counts.{occurs, total}
-use Rattle.coherence.proofs.Turns.Turns.{turns}
-use Rattle.coherence.proofs.Line.Codes.{table, next, holds, copies, waits, writes, wants}
-use Rattle.coherence.proofs.Line.Sound.{update, snoop, Sound}
+use Rattle.std.proofs.Common.{◌≡◌, ℕ, ◌+◌, ◌*◌, ◌<◌, ◌≤◌, true, false, not, eqb, ◌≢◌, length, sym, refl, ap, ◌∙◌, subst, inl, inr, arith}
+use Rattle.std.proofs.lemmas.Bool.{cases_eq, cond-true, cond-false, eq-eqb, ne_eqb}
+use Rattle.coherence.proofs.Line.Codes.{next, holds, waits, writes}
+use Rattle.coherence.proofs.Line.Sound.{update, Sound}
 use Rattle.coherence.proofs.Line.Sends.{update_same, update_other}
 use Rattle.coherence.proofs.Line.Own.{own}
 use Rattle.rules.specs.declared.kind.Kind.{Kind}
@@ -12,12 +10,11 @@ use Rattle.rules.specs.declared.kind.Kind.TheVariants.{Load, Store}
 use Rattle.rules.specs.Boards.{Place, free, posted, sent, served}
 use Rattle.coherence.proofs.Runs.Reading.{Board, Line, Reading}
 use Rattle.coherence.proofs.Runs.Changes.{post, post_line, hitting, clear, hits}
-use Rattle.coherence.proofs.Runs.Good.{pend, agrees, Cell, Good, unsent_fits, sent_fits}
-use Rattle.coherence.proofs.Runs.Clock.{place_of, ask, Clock, Tick}
+use Rattle.coherence.proofs.Runs.Good.{pend, agrees, Cell, Good, unsent_fits}
+use Rattle.coherence.proofs.Runs.Clock.{ask, Clock}
 use Rattle.coherence.proofs.Runs.Each.{each}
 use Rattle.coherence.proofs.Runs.Facts.{post_load, post_store, Posted, fits_post, unsent_store}
 use Rattle.coherence.proofs.Runs.WriteBackClock.{times_ask}
-use Rattle.coherence.proofs.Runs.ServeClock.{HeldAt, OpenAt}
 
 -- nothing moves but requests that are not sent
 pub quiet_clock : (n p : ℕ) (u : ℕ → ℕ) (s s' : Reading) → Clock n p 0 u s

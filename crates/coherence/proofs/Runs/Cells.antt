@@ -1,15 +1,14 @@
 -- What a board does at one line, seen at each line.
-use Rattle.std.proofs.Common.{◌≡◌, ℕ, zero, suc, ◌+◌, ◌<◌, ◌≤◌, Bool, true, false, cond, not, ◌&&◌, ◌||◌, eqb, ◌≢◌, ◌⊎◌, List, [], ◌∷◌, ◌++◌, length, drop, sym, refl, ap, ◌∙◌, subst, inl, inr, arith, lit<}
+use Rattle.std.proofs.Common.{◌≡◌, ℕ, suc, ◌+◌, ◌<◌, ◌≤◌, Bool, true, false, cond, not, eqb, ◌≢◌, List, ◌∷◌, sym, refl, ap, ◌∙◌, inl, inr, arith}
 use Rattle.std.proofs.lemmas.Bool.{cases_eq, cond-true, cond-false, eq-eqb, ne_eqb, eqb-true, eqb-false}
 use Rattle.coherence.proofs.Turns.Counts.{occurs}
-use Rattle.coherence.proofs.Line.Codes.{table, next, holds, copies, waits, writes, wants, gives}
+use Rattle.coherence.proofs.Line.Codes.{next, waits, writes, gives}
 use Rattle.coherence.proofs.Line.Sends.{occurs_push}
 use Rattle.coherence.proofs.Line.Tables.{waits_after}
 use Rattle.coherence.proofs.Runs.Facts.{snoop_not5, snoop_unsent, snoop_sent, snoop_writes, snoop_writes_m, Given, Written, Dropped, open_unsent, calm_sent}
 use Rattle.rules.specs.declared.kind.Kind.{Kind}
-use Rattle.rules.specs.declared.kind.Kind.TheVariants.{Load, Store}
 use Rattle.rules.specs.Boards.{Place, free, posted, sent, served}
-use Rattle.coherence.proofs.Runs.Reading.{Board, Line, Reading, age_board, older, push_board, ask_board, put_board, with_list}
+use Rattle.coherence.proofs.Runs.Reading.{Board, age_board, older, push_board, ask_board, put_board, with_list}
 use Rattle.coherence.proofs.Runs.Good.{pend, agrees, marked, Cell, unsent_fits, sent_fits}
 
 pub cell_aged : (x l : ℕ) (b : Board) (r : ℕ) → Cell x l b r → Cell x l (age_board b) r

@@ -1,12 +1,11 @@
 -- What the calls but a slot change.
-use Rattle.std.proofs.Common.{◌≡◌, ℕ, zero, suc, ◌+◌, ◌-◌, ◌*◌, ◌<◌, ◌≤◌, Bool, true, false, cond, not, ◌&&◌, ◌||◌, eqb, ltb, leb, List, [], ◌∷◌, ◌++◌}
-use Rattle.coherence.proofs.Line.Codes.{next, holds, copies, waits, writes}
-use Rattle.coherence.proofs.Line.Sound.{update, snoop, Single}
+use Rattle.std.proofs.Common.{ℕ, suc, Bool, true, false, not, ◌&&◌, eqb, [], ◌∷◌, ◌++◌}
+use Rattle.coherence.proofs.Line.Codes.{next, holds, copies}
+use Rattle.coherence.proofs.Line.Sound.{update}
 use Rattle.rules.specs.declared.kind.Kind.{Kind}
 use Rattle.rules.specs.declared.kind.Kind.TheVariants.{Load, Store}
-use Rattle.rules.specs.declared.deed.Deed.{Deed}
-use Rattle.rules.specs.Boards.{Place, free, posted, sent, served}
-use Rattle.coherence.proofs.Runs.Reading.{Board, Line, Reading, Did, slot, with_list, push_board, keep}
+use Rattle.rules.specs.Boards.{free, posted}
+use Rattle.coherence.proofs.Runs.Reading.{Board, Line, Reading, keep}
 
 -- a load hits in S, M, MIwb and MSwb, a store in M, MIwb and MSwb
 abbrev pub hits : Kind → ℕ → Bool

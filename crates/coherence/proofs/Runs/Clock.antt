@@ -1,10 +1,10 @@
 -- How near each unserved request is to being served.
-use Rattle.std.proofs.Common.{◌≡◌, ℕ, zero, suc, ◌+◌, ◌-◌, ◌*◌, ◌<◌, ◌≤◌, Bool, true, false, cond, eqb, List, [], ◌∷◌, ◌++◌}
+use Rattle.std.proofs.Common.{◌≡◌, ℕ, suc, ◌+◌, ◌*◌, ◌<◌, ◌≤◌, cond, eqb, List, [], ◌∷◌}
 use Rattle.coherence.proofs.Turns.Turns.{turns}
 use Rattle.coherence.proofs.Line.Codes.{holds, writes}
 use Rattle.rules.specs.declared.kind.Kind.{Kind}
-use Rattle.rules.specs.Boards.{Place, posted, sent}
-use Rattle.coherence.proofs.Runs.Reading.{Board, Line, Reading}
+use Rattle.rules.specs.Boards.{posted, sent}
+use Rattle.coherence.proofs.Runs.Reading.{Board, Reading}
 
 -- the place of b in the list, from 1
 abbrev pub place_of : ℕ → List ℕ → ℕ

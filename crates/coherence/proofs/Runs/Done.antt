@@ -1,12 +1,9 @@
 -- A served request has not waited long.
-use Rattle.std.proofs.Common.{◌≡◌, ℕ, zero, suc, ◌+◌, ◌*◌, ◌<◌, ◌≤◌, Bool, true, false, cond, not, ◌&&◌, ◌||◌, eqb, ◌≢◌, ◌⊎◌, List, [], ◌∷◌, ◌++◌, Some, sym, refl, ap, ◌∙◌, subst, inl, inr, not-suc-le-zero, mul-le-mul, mul-le-mul_left, arith, lit<}
-use Rattle.std.proofs.lemmas.Bool.{cases_eq, cases_lt, and_parts, not-true, false≢true, eqb-true, le-ltb}
+use Rattle.std.proofs.Common.{◌≡◌, ℕ, zero, suc, ◌+◌, ◌*◌, ◌<◌, ◌≤◌, Bool, true, false, not, ◌&&◌, eqb, ◌⊎◌, List, [], ◌∷◌, Some, sym, refl, ap, ◌∙◌, inl, inr, mul-le-mul_left, arith}
+use Rattle.std.proofs.lemmas.Bool.{cases_eq, cases_lt, and_parts, not-true, le-ltb}
 use Rattle.coherence.proofs.Turns.Counts.{occurs, total}
 use Rattle.coherence.proofs.Turns.Turns.{turns}
-use Rattle.coherence.proofs.Turns.Arith as pot
-use Rattle.coherence.proofs.Line.Codes.{table, next, holds, copies, waits, writes, wants}
-use Rattle.coherence.proofs.Line.Sound.{update}
-use Rattle.coherence.proofs.Line.Sends.{update_same, update_other}
+use Rattle.coherence.proofs.Line.Codes.{next, holds, waits, writes}
 use Rattle.rules.specs.declared.kind.Kind.{Kind}
 use Rattle.rules.specs.declared.kind.Kind.TheVariants.{Load, Store}
 use Rattle.rules.specs.declared.deed.Deed.{Deed}
@@ -14,15 +11,15 @@ use Rattle.rules.specs.declared.deed.Deed.TheVariants.{GetS, GetSServed, GetM, G
 use Rattle.rules.specs.Boards.{Place, free, posted, sent, served}
 use Rattle.rules.specs.Boards.{result_of}
 use Rattle.rules.specs.Cells.{is_empty}
-use Rattle.coherence.proofs.Runs.Reading.{Board, Line, Reading, Did, older, aged, age_board, ask_board, push_board, put_board, with_list, sends, serves, puts, upgrades, due, held, ready, is_first, requests, sends_too, writes_back, acts, slot}
-use Rattle.coherence.proofs.Runs.Good.{pend, Cell, Good}
-use Rattle.coherence.proofs.Runs.Clock.{place_of, ask, Clock, Tick}
+use Rattle.coherence.proofs.Runs.Reading.{Board, Reading, Did, older, aged, age_board, ask_board, push_board, put_board, with_list, sends, serves, puts, upgrades, due, held, ready, is_first, requests, sends_too, writes_back, acts, slot}
+use Rattle.coherence.proofs.Runs.Good.{Good}
+use Rattle.coherence.proofs.Runs.Clock.{place_of, Clock}
 use Rattle.coherence.proofs.Runs.Each.{each}
-use Rattle.coherence.proofs.Runs.Facts.{wait_no_m, wait_not_m, writes_holds, holds_writes, holds_le}
+use Rattle.coherence.proofs.Runs.Facts.{wait_no_m, wait_not_m, holds_writes, holds_le}
 use Rattle.coherence.proofs.Runs.Steps.{aged_keeps, none_holds}
 use Rattle.coherence.proofs.Runs.Slots.{first_is}
 use Rattle.coherence.proofs.Runs.Places.{place_here, place_pos}
-use Rattle.coherence.proofs.Runs.WriteBackClock.{aged_clock, in_row, first_in, times_ask, mul_two}
+use Rattle.coherence.proofs.Runs.WriteBackClock.{aged_clock, in_row, times_ask}
 
 abbrev pub Done : ℕ → Reading → Type 0
 Done z s = (b l q w : ℕ) (kd : Kind) → (s.boards b).place ≡ served l kd q w → w ≤ z

@@ -1,12 +1,12 @@
 -- What every run keeps.
-use Rattle.std.proofs.Common.{◌≡◌, ℕ, zero, suc, ◌+◌, ◌-◌, ◌*◌, ◌<◌, ◌≤◌, Bool, true, false, cond, not, ◌&&◌, ◌||◌, eqb, ltb, leb, ◌≢◌, List, [], ◌∷◌, ◌++◌, length}
-use Rattle.coherence.proofs.Turns.Counts.{total, occurs}
-use Rattle.coherence.proofs.Line.Codes.{next, holds, copies, waits, writes, wants}
+use Rattle.std.proofs.Common.{◌≡◌, ℕ, suc, ◌+◌, ◌≤◌, Bool, true, cond, not, ◌||◌, eqb, length}
+use Rattle.coherence.proofs.Turns.Counts.{occurs}
+use Rattle.coherence.proofs.Line.Codes.{waits, writes, wants}
 use Rattle.coherence.proofs.Line.Sound.{Sound}
 use Rattle.rules.specs.declared.kind.Kind.{Kind}
 use Rattle.rules.specs.declared.kind.Kind.TheVariants.{Load, Store}
 use Rattle.rules.specs.Boards.{Place, free, posted, sent, served}
-use Rattle.coherence.proofs.Runs.Reading.{Board, Line, Reading}
+use Rattle.coherence.proofs.Runs.Reading.{Board, Reading}
 
 -- 1 if the request for l is sent and unserved
 abbrev pub pend : Place → ℕ → ℕ

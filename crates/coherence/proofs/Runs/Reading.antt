@@ -1,13 +1,13 @@
 -- A fabric read line by line, with the states as codes: what it holds, and one slot.
-use Rattle.std.proofs.Common.{◌≡◌, ℕ, zero, suc, ◌+◌, ◌-◌, ◌*◌, ◌<◌, ◌≤◌, Bool, true, false, cond, not, ◌&&◌, ◌||◌, eqb, ltb, leb, List, [], ◌∷◌, ◌++◌, length, drop, Some, None, Option}
+use Rattle.std.proofs.Common.{ℕ, suc, ◌+◌, Bool, true, false, cond, not, ◌&&◌, eqb, ltb, List, [], ◌∷◌, ◌++◌, drop, Some, None, Option}
 use Rattle.rules.specs.declared.kind.Kind.{Kind}
 use Rattle.rules.specs.declared.kind.Kind.TheVariants.{Load, Store}
 use Rattle.rules.specs.declared.deed.Deed.{Deed}
 use Rattle.rules.specs.declared.deed.Deed.TheVariants.{Idle, GetS, GetM, GetSServed, GetMServed, Upg, Data, PutM}
 use Rattle.rules.specs.Boards.{Place, free, posted, sent, served, result_of}
 use Rattle.rules.specs.Cells.{is_empty}
-use Rattle.coherence.proofs.Turns.Counts.{total, occurs}
-use Rattle.coherence.proofs.Line.Codes.{next, holds, copies, waits, writes}
+use Rattle.coherence.proofs.Turns.Counts.{total}
+use Rattle.coherence.proofs.Line.Codes.{next, holds, copies, writes}
 use Rattle.coherence.proofs.Line.Sound.{update, snoop}
 
 -- asked: its last deed was a request; mark: 1 more than the line that is marked as a replacement, or 0

@@ -1,15 +1,13 @@
 -- Replacement keeps what every run keeps.
-use Rattle.std.proofs.Common.{◌≡◌, ℕ, zero, suc, ◌+◌, ◌*◌, ◌<◌, ◌≤◌, Bool, true, false, cond, not, ◌&&◌, ◌||◌, eqb, ◌≢◌, ◌⊎◌, List, [], ◌∷◌, ◌++◌, length, drop, sym, refl, ap, ◌∙◌, subst, inl, inr, arith, lit<}
-use Rattle.std.proofs.lemmas.Bool.{cases_eq, cond-true, cond-false, eq-eqb, ne_eqb, eqb-true, and_cases, not-false, false≢true, true≢false}
-use Rattle.coherence.proofs.Turns.Counts.{occurs, total}
-use Rattle.coherence.proofs.Turns.Turns.{turns}
-use Rattle.coherence.proofs.Line.Codes.{table, next, holds, copies, waits, writes, wants}
-use Rattle.coherence.proofs.Line.Sound.{update, snoop, Sound}
+use Rattle.std.proofs.Common.{◌≡◌, ℕ, suc, ◌<◌, ◌≤◌, Bool, true, false, not, ◌&&◌, ◌||◌, eqb, ◌≢◌, length, sym, refl, ap, ◌∙◌, inl, inr, arith}
+use Rattle.std.proofs.lemmas.Bool.{cases_eq, cond-true, cond-false, eq-eqb, ne_eqb, eqb-true, and_cases, not-false, false≢true}
+use Rattle.coherence.proofs.Turns.Counts.{occurs}
+use Rattle.coherence.proofs.Line.Codes.{next, holds, copies, waits, writes}
+use Rattle.coherence.proofs.Line.Sound.{update, Sound}
 use Rattle.coherence.proofs.Line.Sends.{update_same, update_other, occurs_push}
 use Rattle.coherence.proofs.Line.Own.{own}
 use Rattle.rules.specs.declared.kind.Kind.{Kind}
-use Rattle.rules.specs.declared.kind.Kind.TheVariants.{Load, Store}
-use Rattle.rules.specs.Boards.{Place, free, posted, sent, served}
+use Rattle.rules.specs.Boards.{free, sent, served}
 use Rattle.coherence.proofs.Runs.Reading.{Board, Line, Reading, keep}
 use Rattle.coherence.proofs.Runs.Changes.{replaces, replace_line, mark_board}
 use Rattle.coherence.specs.Book.{Book}

@@ -1,20 +1,19 @@
 -- Serving, sending, upgrading and idling bring every unserved request nearer.
-use Rattle.std.proofs.Common.{◌≡◌, ℕ, zero, suc, ◌+◌, ◌*◌, ◌<◌, ◌≤◌, Bool, true, false, cond, not, ◌&&◌, eqb, ◌≢◌, ◌⊎◌, List, [], ◌∷◌, ◌++◌, length, drop, sym, refl, ap, ◌∙◌, subst, inl, inr, not-suc-le-zero, mul-le-mul_left, arith, length-append}
-use Rattle.std.proofs.lemmas.Bool.{cases_eq, cases_lt, cond-true, cond-false, eq-eqb, ne_eqb}
-use Rattle.coherence.proofs.Turns.Counts.{occurs, total}
+use Rattle.std.proofs.Common.{◌≡◌, ℕ, suc, ◌+◌, ◌*◌, ◌<◌, ◌≤◌, eqb, ◌≢◌, List, ◌∷◌, length, sym, ap, ◌∙◌, subst, inl, inr, arith}
+use Rattle.std.proofs.lemmas.Bool.{cases_eq, cond-false, ne_eqb}
+use Rattle.coherence.proofs.Turns.Counts.{occurs}
 use Rattle.coherence.proofs.Turns.Turns.{turns}
 use Rattle.coherence.proofs.Turns.Arith as pot
-use Rattle.coherence.proofs.Line.Codes.{table, next, holds, copies, waits, writes, wants}
+use Rattle.coherence.proofs.Line.Codes.{holds, writes}
 use Rattle.rules.specs.declared.kind.Kind.{Kind}
-use Rattle.rules.specs.declared.kind.Kind.TheVariants.{Load, Store}
-use Rattle.rules.specs.Boards.{Place, free, posted, sent, served}
-use Rattle.coherence.proofs.Runs.Reading.{Board, Line, Reading}
-use Rattle.coherence.proofs.Runs.Good.{pend, Cell, Good}
+use Rattle.rules.specs.Boards.{Place, posted, sent, served}
+use Rattle.coherence.proofs.Runs.Reading.{Board, Reading}
+use Rattle.coherence.proofs.Runs.Good.{pend, Good}
 use Rattle.coherence.proofs.Runs.Clock.{place_of, ask, Clock, Tick}
-use Rattle.coherence.proofs.Runs.Facts.{writes_le, own_put, writes_holds}
-use Rattle.coherence.proofs.Runs.Places.{place_here, place_next, place_pos, place_push, place_last, place_le, occurs_next}
-use Rattle.coherence.proofs.Runs.Short.{waiting_below, row_short, held_row, held_short, list_short}
-use Rattle.coherence.proofs.Runs.WriteBackClock.{times_one, times_zero, times_ask, writing_below, turns_step, mul_two, in_row, first_in, first_below}
+use Rattle.coherence.proofs.Runs.Facts.{writes_holds}
+use Rattle.coherence.proofs.Runs.Places.{place_next, place_pos, place_le}
+use Rattle.coherence.proofs.Runs.Short.{row_short, list_short}
+use Rattle.coherence.proofs.Runs.WriteBackClock.{times_one, times_zero, times_ask, writing_below, mul_two, in_row, first_in, first_below}
 
 -- at one line, or at the others
 pub by_line : (P : ℕ → Type 0) (l0 : ℕ) → P l0 → ((l : ℕ) → l ≢ l0 → P l) → (l : ℕ) → P l

@@ -1,17 +1,14 @@
 -- A write-back list is short.
-use Rattle.std.proofs.Common.{◌≡◌, ℕ, zero, suc, ◌+◌, ◌*◌, ◌<◌, ◌≤◌, Bool, true, false, cond, eqb, ◌≢◌, ◌⊎◌, List, [], ◌∷◌, ◌++◌, length, sym, refl, ap, ◌∙◌, subst, inl, inr, not-suc-le-zero, arith}
+use Rattle.std.proofs.Common.{◌≡◌, ℕ, zero, suc, ◌+◌, ◌*◌, ◌<◌, ◌≤◌, cond, eqb, List, [], ◌∷◌, length, sym, refl, ap, ◌∙◌, inl, inr, arith}
 use Rattle.std.specs.List.{AllByRecursion as All}
 use Rattle.std.proofs.lemmas.Bool.{cases_eq, cases_lt, cond-true, cond-false, eq-eqb, ne_eqb, cond_both}
 use Rattle.coherence.proofs.Turns.Counts.{occurs, total, over}
 use Rattle.coherence.proofs.Turns.Counting.{short, length_row, list_le, over_pick, total_one, total_idle}
-use Rattle.coherence.proofs.Line.Codes.{table, next, holds, copies, waits, writes, wants}
-use Rattle.coherence.proofs.Line.Sound.{Sound}
-use Rattle.coherence.proofs.Line.Tables.{waits_one}
+use Rattle.coherence.proofs.Line.Codes.{waits, writes}
 use Rattle.coherence.proofs.Line.Sends.{all_met}
-use Rattle.rules.specs.declared.kind.Kind.{Kind}
 use Rattle.rules.specs.Boards.{Place, free, posted, sent, served}
-use Rattle.coherence.proofs.Runs.Reading.{Board, Line, Reading}
-use Rattle.coherence.proofs.Runs.Good.{pend, marked, Cell, Good}
+use Rattle.coherence.proofs.Runs.Reading.{Reading}
+use Rattle.coherence.proofs.Runs.Good.{pend, marked, Good}
 use Rattle.coherence.proofs.Runs.Facts.{writes_le, own_put}
 use Rattle.coherence.proofs.Runs.Clock.{place_of}
 

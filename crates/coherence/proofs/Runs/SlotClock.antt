@@ -1,9 +1,9 @@
 -- A slot brings every unserved request nearer.
-use Rattle.std.proofs.Common.{◌≡◌, ℕ, zero, suc, ◌+◌, ◌*◌, ◌<◌, ◌≤◌, Bool, true, false, cond, not, ◌&&◌, ◌||◌, eqb, ◌≢◌, ◌⊎◌, List, [], ◌∷◌, ◌++◌, length, drop, Some, sym, refl, ap, ◌∙◌, subst, inl, inr, not-suc-le-zero, arith, lit<}
-use Rattle.std.proofs.lemmas.Bool.{cases_eq, cases_Bool, cond-true, cond-false, eq-eqb, ne_eqb, eqb-true, and_parts, and_from, le-ltb, not-true, not-false, false≢true, true≢false}
+use Rattle.std.proofs.Common.{◌≡◌, ℕ, zero, suc, ◌+◌, ◌<◌, ◌≤◌, Bool, true, false, cond, not, ◌&&◌, eqb, List, [], ◌∷◌, ◌++◌, length, drop, Some, sym, refl, ap, ◌∙◌, subst, inl, inr, arith, lit<}
+use Rattle.std.proofs.lemmas.Bool.{cases_eq, cond-true, cond-false, eq-eqb, ne_eqb, eqb-true, and_parts, and_from, le-ltb, not-true, not-false, false≢true}
 use Rattle.coherence.proofs.Turns.Counts.{occurs, total}
-use Rattle.coherence.proofs.Line.Codes.{table, next, holds, copies, waits, writes, wants}
-use Rattle.coherence.proofs.Line.Sound.{update, snoop, Sound}
+use Rattle.coherence.proofs.Line.Codes.{table, next, holds, waits, writes}
+use Rattle.coherence.proofs.Line.Sound.{snoop}
 use Rattle.coherence.proofs.Line.Sends.{update_same, update_other, snoop_own, snoop_other, occurs_push}
 use Rattle.rules.specs.declared.kind.Kind.{Kind}
 use Rattle.rules.specs.declared.kind.Kind.TheVariants.{Load, Store}
@@ -13,11 +13,11 @@ use Rattle.rules.specs.Boards.{Place, free, posted, sent, served}
 use Rattle.rules.specs.Boards.{result_of}
 use Rattle.rules.specs.Cells.{is_empty}
 use Rattle.coherence.proofs.Runs.Reading.{Board, Line, Reading, Did, ask_board, push_board, put_board, with_list, sends, send_line, aged, held, serves, serve_line, puts, put_line, upgrades, upg_line, due, ready, is_first, requests, sends_too, writes_back, acts, slot}
-use Rattle.coherence.proofs.Runs.Good.{pend, agrees, Cell, Good, unsent_fits, sent_fits}
+use Rattle.coherence.proofs.Runs.Good.{pend, Good, unsent_fits}
 use Rattle.coherence.proofs.Runs.Clock.{place_of, ask, Clock, Tick}
 use Rattle.coherence.proofs.Runs.Each.{each}
 use Rattle.coherence.proofs.Runs.Facts.{Sent, sound_get_s, sound_get_m, own_get_s, own_get_m, own_put, snoop_holds, snoop_writes, wait_no_m, wait_not_m, sender_holds, act_of, own_data}
-use Rattle.coherence.proofs.Runs.Steps.{aged_keeps, sends_keeps, serves_keeps, puts_keeps, upgrades_keeps, none_holds, has_copy}
+use Rattle.coherence.proofs.Runs.Steps.{aged_keeps, sends_keeps, puts_keeps, upgrades_keeps, none_holds, has_copy}
 use Rattle.coherence.proofs.Runs.Slots.{first_is, empty_is, due_keeps, unsent}
 use Rattle.coherence.proofs.Runs.Places.{place_push, place_last}
 use Rattle.coherence.proofs.Runs.WriteBackClock.{put_clock, aged_clock, times_one, times_zero, in_row, first_in, pend_is}

@@ -1,18 +1,17 @@
 -- A slot keeps what every run keeps.
-use Rattle.std.proofs.Common.{◌≡◌, ℕ, zero, suc, ◌+◌, ◌<◌, ◌≤◌, Bool, true, false, cond, not, ◌&&◌, ◌||◌, eqb, ◌≢◌, ◌⊎◌, List, [], ◌∷◌, ◌++◌, length, drop, Some, sym, refl, ap, ◌∙◌, subst, inl, inr, arith, lit<}
-use Rattle.std.proofs.lemmas.Bool.{cases_eq, cases_Bool, cond-true, cond-false, eq-eqb, eqb-true, and_parts, not-true, false≢true}
-use Rattle.coherence.proofs.Line.Codes.{table, next, holds, copies, waits, writes, wants}
-use Rattle.coherence.proofs.Line.Sound.{update, snoop, Sound}
-use Rattle.coherence.proofs.Line.Sends.{update_same, update_other}
+use Rattle.std.proofs.Common.{◌≡◌, ℕ, ◌<◌, Bool, true, false, not, ◌&&◌, eqb, List, [], ◌∷◌, Some, sym, refl, ap, ◌∙◌, lit<}
+use Rattle.std.proofs.lemmas.Bool.{cond-true, eq-eqb, eqb-true, and_parts, not-true, false≢true}
+use Rattle.coherence.proofs.Line.Codes.{table, next}
+use Rattle.coherence.proofs.Line.Sends.{update_same}
 use Rattle.rules.specs.declared.kind.Kind.{Kind}
 use Rattle.rules.specs.declared.kind.Kind.TheVariants.{Load, Store}
 use Rattle.rules.specs.declared.deed.Deed.{Deed}
 use Rattle.rules.specs.declared.deed.Deed.TheVariants.{GetS, GetSServed, GetM, GetMServed, Upg}
 use Rattle.rules.specs.Boards.{Place, free, posted, sent, served}
 use Rattle.rules.specs.Cells.{is_empty}
-use Rattle.coherence.proofs.Runs.Reading.{Board, Line, Reading, Did, ask_board, with_list, sends, aged, held, serves, puts, upgrades, due, ready, is_first, requests, sends_too, writes_back, acts, slot}
-use Rattle.coherence.proofs.Runs.Good.{pend, agrees, Cell, Good, unsent_fits, sent_fits}
-use Rattle.coherence.proofs.Runs.Facts.{Sent, sound_get_s, sound_get_m, own_get_s, own_get_m}
+use Rattle.coherence.proofs.Runs.Reading.{Board, Reading, Did, ask_board, with_list, sends, aged, held, serves, upgrades, due, ready, is_first, requests, sends_too, writes_back, acts, slot}
+use Rattle.coherence.proofs.Runs.Good.{agrees, Good, unsent_fits}
+use Rattle.coherence.proofs.Runs.Facts.{sound_get_s, sound_get_m, own_get_s, own_get_m}
 use Rattle.coherence.proofs.Runs.Steps.{aged_keeps, sends_keeps, serves_keeps, puts_keeps, upgrades_keeps, none_holds}
 
 pub first_is : (b : ℕ) (row : List ℕ) → is_first b row ≡ true → (r : List ℕ) × (row ≡ b ∷ r)

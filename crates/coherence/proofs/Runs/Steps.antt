@@ -1,19 +1,19 @@
 -- Each step keeps what every run keeps.
-use Rattle.std.proofs.Common.{◌≡◌, ℕ, zero, suc, ◌+◌, ◌<◌, ◌≤◌, Bool, true, false, cond, not, ◌&&◌, ◌||◌, eqb, ◌≢◌, ◌⊎◌, List, [], ◌∷◌, ◌++◌, length, drop, sym, refl, ap, ◌∙◌, subst, inl, inr, not-suc-le-zero, arith, lit<, length-append}
-use Rattle.std.proofs.lemmas.Bool.{cases_eq, cond-true, cond-false, eq-eqb, ne_eqb, eqb-true, cases_lt, ltb-false}
+use Rattle.std.proofs.Common.{◌≡◌, ℕ, zero, suc, ◌+◌, ◌<◌, ◌≤◌, true, false, cond, not, eqb, ◌≢◌, List, [], ◌∷◌, ◌++◌, length, drop, sym, refl, ap, ◌∙◌, subst, inl, inr, not-suc-le-zero, arith, length-append}
+use Rattle.std.proofs.lemmas.Bool.{cases_eq, cond-true, cond-false, eq-eqb, ne_eqb, cases_lt, ltb-false}
 use Rattle.coherence.proofs.Turns.Counts.{occurs, total}
 use Rattle.coherence.proofs.Line.Codes.{table, next, holds, copies, waits, writes, wants}
 use Rattle.coherence.proofs.Line.Sound.{update, snoop, Sound, fits}
 use Rattle.coherence.proofs.Line.Own.{data_keeps, put_keeps, upg_keeps}
 use Rattle.coherence.proofs.Line.Sends.{snoop_own, snoop_other, update_same, update_other}
 use Rattle.rules.specs.declared.kind.Kind.{Kind}
-use Rattle.rules.specs.declared.kind.Kind.TheVariants.{Load, Store}
-use Rattle.rules.specs.Boards.{Place, free, posted, sent, served}
+use Rattle.rules.specs.declared.kind.Kind.TheVariants.{Store}
+use Rattle.rules.specs.Boards.{Place, posted, sent, served}
 use Rattle.rules.specs.Boards.{result_of}
-use Rattle.coherence.proofs.Runs.Reading.{Board, Line, Reading, age_board, older, push_board, ask_board, put_board, with_list, send_line, sends, aged, held, serves, serve_line, puts, put_line, upgrades, upg_line}
-use Rattle.coherence.proofs.Runs.Good.{pend, agrees, marked, Cell, Good, unsent_fits, sent_fits}
+use Rattle.coherence.proofs.Runs.Reading.{Board, Reading, ask_board, put_board, with_list, send_line, sends, aged, held, serves, serve_line, puts, put_line, upgrades, upg_line}
+use Rattle.coherence.proofs.Runs.Good.{pend, Cell, Good, unsent_fits, sent_fits}
 use Rattle.coherence.proofs.Runs.Each.{each}
-use Rattle.coherence.proofs.Runs.Facts.{Sent, Given, Written, Dropped, own_data, own_put, upg_beside, writes_holds, holds_le}
+use Rattle.coherence.proofs.Runs.Facts.{Sent, Written, Dropped, own_data, own_put, upg_beside, writes_holds, holds_le}
 use Rattle.coherence.proofs.Runs.Cells.{cell_aged, cell_with, cell_asked, cell_put, cell_snooped, cell_served, cell_written, cell_dropped}
 
 pub aged_keeps : (n : ℕ) (s : Reading) → Good n s → Good n (aged s)

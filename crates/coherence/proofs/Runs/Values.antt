@@ -1,18 +1,15 @@
 -- Every copy has the word stored last.
-use Rattle.std.proofs.Common.{◌≡◌, ℕ, zero, suc, ◌+◌, ◌*◌, ◌<◌, ◌≤◌, Bool, true, false, cond, not, ◌&&◌, ◌||◌, eqb, ◌≢◌, ◌⊎◌, List, [], ◌∷◌, ◌++◌, length, drop, sym, refl, ap, ◌∙◌, subst, inl, inr, arith, lit<}
-use Rattle.std.proofs.lemmas.Bool.{cases_eq, cond-true, cond-false, eq-eqb, ne_eqb, eqb-true}
-use Rattle.coherence.proofs.Line.Codes.{table, next, holds, copies, waits, writes, wants}
+use Rattle.std.proofs.Common.{◌≡◌, ℕ, ◌+◌, ◌<◌, true, eqb, List, [], sym, refl, ap, ◌∙◌, subst, inl, inr, arith}
+use Rattle.std.proofs.lemmas.Bool.{cases_eq, cond-true, eq-eqb}
+use Rattle.coherence.proofs.Line.Codes.{table, next, holds, copies}
 use Rattle.coherence.proofs.Line.Sound.{update, snoop, Sound}
 use Rattle.coherence.proofs.Line.Sends.{update_same, update_other, snoop_own, snoop_other, single}
 use Rattle.rules.specs.declared.kind.Kind.{Kind}
 use Rattle.rules.specs.declared.kind.Kind.TheVariants.{Load, Store}
-use Rattle.rules.specs.Boards.{Place, free, posted, sent, served}
 use Rattle.rules.specs.Boards.{result_of}
-use Rattle.coherence.proofs.Runs.Reading.{Board, Line, Reading, keep, sends, send_line, serves, serve_line, puts, put_line, upgrades, upg_line}
-use Rattle.coherence.proofs.Runs.Changes.{post, hitting, clear, hits}
-use Rattle.coherence.proofs.Runs.Good.{pend, agrees, Cell, Good, unsent_fits, sent_fits}
-use Rattle.coherence.proofs.Runs.Each.{each}
-use Rattle.coherence.proofs.Runs.Facts.{snoop_copies, snoop_holds, sender_copies, want_alone, want_holds, holds_copies, load_holds, writes_holds, holds_le, post_copies, Posted, post_store, upg_beside, Dropped}
+use Rattle.coherence.proofs.Runs.Reading.{Line, keep, send_line, serve_line, put_line, upg_line}
+use Rattle.coherence.proofs.Runs.Good.{sent_fits}
+use Rattle.coherence.proofs.Runs.Facts.{snoop_copies, snoop_holds, want_alone, want_holds, upg_beside}
 
 -- of one line: its copies' word, and the memory's if it has no holder
 pub record Fresh (v : ℕ) (ln : Line) : Type 0 where

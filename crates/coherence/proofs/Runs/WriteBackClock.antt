@@ -1,20 +1,16 @@
 -- A slot brings every unserved request nearer.
-use Rattle.std.proofs.Common.{◌≡◌, ℕ, zero, suc, ◌+◌, ◌*◌, ◌<◌, ◌≤◌, Bool, true, false, cond, not, ◌&&◌, eqb, ◌≢◌, ◌⊎◌, List, [], ◌∷◌, ◌++◌, length, drop, sym, refl, ap, ◌∙◌, subst, inl, inr, not-suc-le-zero, mul-le-mul_left, mul-zero, mul-one, arith}
-use Rattle.std.proofs.lemmas.Bool.{cases_eq, cases_lt, cond-true, cond-false, cond_both, eq-eqb, ne_eqb, eqb-true}
-use Rattle.coherence.proofs.Turns.Counts.{occurs, total}
+use Rattle.std.proofs.Common.{◌≡◌, ℕ, suc, ◌+◌, ◌*◌, ◌<◌, ◌≤◌, cond, eqb, ◌≢◌, List, ◌∷◌, sym, refl, ap, ◌∙◌, subst, inl, inr, not-suc-le-zero, mul-le-mul_left, mul-zero, mul-one, arith}
+use Rattle.std.proofs.lemmas.Bool.{cases_eq, cases_lt, cond-true, cond-false, cond_both, eq-eqb, ne_eqb}
+use Rattle.coherence.proofs.Turns.Counts.{occurs}
 use Rattle.coherence.proofs.Turns.Turns.{turns}
-use Rattle.coherence.proofs.Turns.Arith as pot
-use Rattle.coherence.proofs.Line.Codes.{table, next, holds, copies, waits, writes, wants}
-use Rattle.coherence.proofs.Line.Sound.{update, snoop, Sound}
+use Rattle.coherence.proofs.Line.Codes.{holds, writes}
 use Rattle.rules.specs.declared.kind.Kind.{Kind}
-use Rattle.rules.specs.declared.kind.Kind.TheVariants.{Load, Store}
 use Rattle.rules.specs.Boards.{Place, free, posted, sent, served}
-use Rattle.coherence.proofs.Runs.Reading.{Board, Line, Reading, older, aged, age_board}
-use Rattle.coherence.proofs.Runs.Good.{pend, agrees, marked, Cell, Good}
+use Rattle.coherence.proofs.Runs.Reading.{Board, Reading, older, aged, age_board}
+use Rattle.coherence.proofs.Runs.Good.{pend, Good}
 use Rattle.coherence.proofs.Runs.Clock.{place_of, ask, Clock, Tick}
-use Rattle.coherence.proofs.Runs.Facts.{writes_le, own_put, writes_holds}
-use Rattle.coherence.proofs.Runs.Places.{place_here, place_next, place_pos, place_push, place_last, place_le, occurs_next}
-use Rattle.coherence.proofs.Runs.Short.{waiting_below, row_short, held_row, held_short, list_short}
+use Rattle.coherence.proofs.Runs.Places.{place_here, place_next}
+use Rattle.coherence.proofs.Runs.Short.{waiting_below}
 
 -- the counts grow by one
 older_posted : (q : Place) (l w : ℕ) (kd : Kind) → older q ≡ posted l kd w → (w0 : ℕ) × (q ≡ posted l kd w0) × (w ≡ w0 + 1)

@@ -1,5 +1,5 @@
 -- The arithmetic of the potential.
-use Rattle.std.proofs.Common.{◌≡◌, ℕ, zero, suc, ◌+◌, ◌-◌, ◌*◌, ◌<◌, ◌≤◌, sym, refl, ap, ◌∙◌, subst, mul-le-mul_right, mul-le-mul, mul-le-mul_left, arith}
+use Rattle.std.proofs.Common.{◌≡◌, ℕ, ◌+◌, ◌-◌, ◌*◌, ◌≤◌, mul-le-mul_left, arith}
 use Rattle.coherence.proofs.Turns.Turns.{turns, Bounded}
 
 -- without subtraction: s = a + 1, n = a + 1 + d

@@ -1,5 +1,5 @@
 -- How many turns a sent request may still need.
-use Rattle.std.proofs.Common.{◌≡◌, ℕ, zero, suc, ◌+◌, ◌-◌, ◌*◌, ◌<◌, ◌≤◌, Bool, true, false, cond, eqb}
+use Rattle.std.proofs.Common.{ℕ, ◌+◌, ◌-◌, ◌*◌, ◌≤◌}
 
 -- at place s (from 1) of its row, with the line at place h (from 1) of its holder's list, or h = 0 without a holder
 unfoldable pub turns : ℕ → ℕ → ℕ → ℕ

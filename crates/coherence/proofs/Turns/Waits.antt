@@ -1,5 +1,5 @@
 -- How far away a board's next turn is.
-use Rattle.std.proofs.Common.{◌≡◌, ℕ, zero, suc, ◌+◌, ◌-◌, ◌*◌, ◌<◌, ◌≤◌, Bool, true, false, cond, eqb}
+use Rattle.std.proofs.Common.{ℕ, zero, suc, cond, eqb}
 use Rattle.schedule.specs.Rows.{later}
 
 -- the slots up to b's next turn, that one included, if it comes among the first f, and f + 1 if not
