@@ -1,5 +1,6 @@
 -- Which schedules are refused.
-use Rattle.std.specs.Prelude.{◌≡◌, ℕ, zero, suc, ◌<◌, ◌≤◌, Bool, false, cond, not, ◌||◌, ◌⊎◌, List, [], ◌∷◌, length, Some, None, Option, ◌==◌, ◌≢◌, nat_eq, nat_le, nat_lt, slice_index}
+use Rattle.std.specs.Prelude.{◌≡◌, ℕ, ◌<◌, ◌≤◌, Bool, not, ◌||◌, ◌⊎◌, List, [], ◌∷◌, length, Option, ◌==◌, ◌≢◌, nat_eq, nat_le, nat_lt, slice_index}
+use Rattle.std.specs.List.{find, list_any, range_with_len}
 use Rattle.schedule.specs.declared.refusal.ScheduleRefusal.{ScheduleRefusal}
 use Rattle.schedule.specs.declared.refusal.ScheduleRefusal.TheVariants.{BoardCount, ListLength, ForeignBoard, MissingBoard}
 use Rattle.schedule.specs.Numbers.{number}
@@ -24,19 +25,14 @@ abbrev pub Accepted : ℕ → List ℕ → Type 0
 Accepted n xs = (f : ScheduleRefusal) → Fits n xs f → ⊥
 
 -- The same as tests that compute.
-abbrev pub some : (ℕ → Bool) → List ℕ → Bool
-some test [] = false
-some test (x ∷ xs) = test x || some test xs
-
 abbrev pub foreign : ℕ → List ℕ → Bool
-foreign n = some (λ x. nat_le n x)
+foreign n = list_any (λ x. nat_le n x)
 
 abbrev pub names : ℕ → List ℕ → Bool
-names b = some (λ x. nat_eq x b)
+names b = list_any (λ x. nat_eq x b)
 
 abbrev pub missing : ℕ → List ℕ → Bool
-missing zero xs = false
-missing (suc n) xs = not (names n xs) || missing n xs
+missing n xs = list_any (λ b. not (names b xs)) (range_with_len 0 n)
 
 abbrev pub fits : ℕ → List ℕ → ScheduleRefusal → Bool
 fits n xs BoardCount = n == 0 || nat_lt 16 n
@@ -44,15 +40,10 @@ fits n xs ListLength = length xs == 0 || nat_lt 64 (length xs)
 fits n xs ForeignBoard = foreign n xs
 fits n xs MissingBoard = missing n xs
 
--- The first that passes a test.
-abbrev pub first_of : {A : Type 0} → (A → Bool) → List A → Option A
-first_of test [] = None
-first_of test (x ∷ xs) = cond (test x) (Some x) (first_of test xs)
-
 -- The refusal of a slot list for n boards, or none.
 abbrev pub list_refusal : ℕ → List ℕ → Option ScheduleRefusal
-list_refusal n xs = first_of (fits n xs) (BoardCount ∷ ListLength ∷ ForeignBoard ∷ MissingBoard ∷ [])
+list_refusal n xs = find (fits n xs) (BoardCount ∷ ListLength ∷ ForeignBoard ∷ MissingBoard ∷ [])
 
 -- The refusal of a round robin of n boards, or none.
 abbrev pub count_refusal : ℕ → Option ScheduleRefusal
-count_refusal n = first_of (fits n []) (BoardCount ∷ [])
+count_refusal n = find (fits n []) (BoardCount ∷ [])

@@ -1,10 +1,12 @@
 -- The computed refusal is the first that fits.
-use Rattle.std.specs.Prelude.{◌≡◌, ℕ, ◌+◌, ◌<◌, ◌≤◌, Bool, true, false, not, List, length, is_some, Some, None, Ok, Err, Decides, Option, Result, MatchOption, MatchResult, ◌≢◌, nat_eq, nat_le, slice_index, slice_index_or, refl}
-use Rattle.std.proofs.Common.{sym, subst, add-one, arith}
+use Rattle.std.specs.Prelude.{◌≡◌, ℕ, ◌<◌, ◌≤◌, Bool, true, false, not, List, length, is_some, Some, None, Ok, Err, Decides, Option, Result, MatchOption, MatchResult, ◌≢◌, nat_eq, nat_le, slice_index, slice_index_or, refl}
+use Rattle.std.proofs.Common.{sym, subst, get_or, arith}
 use Rattle.std.specs.Result.{result_err}
-use Rattle.std.proofs.lemmas.Bool.{both_ways, leb-true, le-leb, cond_both, or_from, not_from_true}
-use Rattle.std.proofs.lemmas.Bool.Decides.{Decides-eqb, Decides-ltb, Decides-or, Decides-not, Decides-like, Decides-by_or, Decides-below_or, not_from_Decides}
+use Rattle.std.specs.List.{list_any, range_with_len}
+use Rattle.std.proofs.lemmas.Bool.{both_ways, leb-true, le-leb, cond_both}
+use Rattle.std.proofs.lemmas.Bool.Decides.{Decides-eqb, Decides-ltb, Decides-or, Decides-not, Decides-like, Decides-by_or, not_from_Decides}
 use Rattle.std.proofs.lemmas.List.{get_or_default}
+use Rattle.std.proofs.lemmas.List.FromFn.{length-range_with_len, get_or-range_with_len}
 use Rattle.schedule.specs.declared.refusal.ScheduleRefusal.{ScheduleRefusal}
 use Rattle.schedule.specs.declared.refusal.ScheduleRefusal.TheVariants.{BoardCount, ListLength, ForeignBoard, MissingBoard}
 use Rattle.schedule.specs.Numbers.{number}
@@ -23,8 +25,14 @@ names_decides b xs = at_zero (λ x. x ≡ b) _ xs (Decides-by_or (λ x. nat_eq x
 
 pub missing_decides : (n : ℕ) (xs : List ℕ) → Decides (missing n xs) (Fits n xs MissingBoard)
 missing_decides n xs =
-    Decides-below_or (λ b. not (names b xs)) (λ b. (k : ℕ) → k < length xs → slice_index xs k ≢ b) (λ m. missing m xs)
-    (λ b. Decides-like (not (names b xs)) (λ none k h e. none (k, h, e)) (λ none w. none w.0 w.1 w.2) (Decides-not (names b xs) (names_decides b xs))) refl (λ _. refl) n
+    let Unnamed : ℕ → Type 0 = λ b. (k : ℕ) → k < length xs → slice_index xs k ≢ b in
+    let all = range_with_len 0 n in
+    let at : (k d : ℕ) → k < n → get_or all k d ≡ k = λ k d lt. omega (arith, get_or-range_with_len 0 n k d lt) in
+    Decides-like (missing n xs)
+    (λ w. let lt : w.0 < n = omega (arith, length-range_with_len 0 n) in (w.0, lt, rw (at w.0 0 lt) at (w.2 0)))
+    (λ w. (w.0, omega (arith, length-range_with_len 0 n), λ d. rw (at w.0 d w.1) w.2))
+    (Decides-by_or (λ b. not (names b xs)) Unnamed (list_any (λ b. not (names b xs)))
+    (λ b. Decides-like (not (names b xs)) (λ none k h e. none (k, h, e)) (λ none w. none w.0 w.1 w.2) (Decides-not (names b xs) (names_decides b xs))) refl (λ _ _. refl) all)
 
 pub fits_decides : (n : ℕ) (xs : List ℕ) (e : ScheduleRefusal) → Decides (fits n xs e) (Fits n xs e)
 fits_decides n xs BoardCount = Decides-or _ _ (Decides-eqb n 0) (Decides-ltb 16 n)
@@ -104,13 +112,3 @@ module _ (n : ℕ) (xs : List ℕ) where
       by : (o : Option ScheduleRefusal) → is_some o ≡ false → Verdict o → Accepted n xs
       by None e v = v
       by (Some f) e v = absurd (both_ways true e refl)
-
-pub missing_more : (xs : List ℕ) (b : ℕ) → missing b xs ≡ false → names b xs ≡ true → missing (b + 1) xs ≡ false
-missing_more xs b none named = rw add-one (or_from _ _ (not_from_true _ named) none)
-
-pub missing_at : (n : ℕ) (xs : List ℕ) (b : ℕ) → b < n → names b xs ≡ false → true ≡ missing n xs
-missing_at n xs b h unnamed =
-    sym ((missing_decides n xs).1 (b, h, λ k lt e. not_from_Decides (names b xs) (names_decides b xs) unnamed (k, lt, e)))
-
-pub missing_all : (n : ℕ) (xs : List ℕ) (b : ℕ) → b ≤ n → n ≤ b → missing b xs ≡ false → false ≡ missing n xs
-missing_all n xs b le ge none = let e : b ≡ n = omega arith in sym (subst (λ m. missing m xs ≡ false) e none)

@@ -1,17 +1,19 @@
 // Why a schedule is refused.
-ghost use Rattle.std.specs.Prelude.{◌≡◌};
+ghost use Rattle.std.specs.Prelude.{◌≡◌, Some, decimal};
 ghost use Rattle.schedule.specs.Numbers.{number};
+
+use std::fmt;
 
 #[derive(Clone, Copy, PartialEq, Eq, Debug)]
 pub enum ScheduleRefusal {
     // The board count is 0 or above 16.
-    BoardCount,
+    BoardCount = 1,
     // The list is empty or longer than 64.
-    ListLength,
+    ListLength = 2,
     // The list names a board that is not below the count.
-    ForeignBoard,
+    ForeignBoard = 3,
     // A board has no entry in the list.
-    MissingBoard,
+    MissingBoard = 4,
 }
 
 impl ScheduleRefusal {
@@ -19,11 +21,14 @@ impl ScheduleRefusal {
     pub fn number(self) -> u8
         ensures { result ≡ number self }
     {
-        match self {
-            ScheduleRefusal::BoardCount => 1,
-            ScheduleRefusal::ListLength => 2,
-            ScheduleRefusal::ForeignBoard => 3,
-            ScheduleRefusal::MissingBoard => 4,
-        }
+        self as u8
+    }
+}
+
+impl fmt::Display for ScheduleRefusal {
+    ghost output = { λ e. Some (decimal (number e)) };
+
+    fn fmt<W: fmt::Write>(&self, f: &mut fmt::Formatter<W>) -> fmt::Result {
+        write!(f, "{}", self.number())
     }
 }

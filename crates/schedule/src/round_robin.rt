@@ -1,12 +1,13 @@
 // Round robin: the boards in turn.
-ghost use Rattle.std.specs.Prelude.{◌<◌, ◌≤◌};
+ghost use Rattle.std.specs.Prelude.{◌≤◌};
 
 pub mod calls;
 
+use crate::ring::Ring;
+
+// A ring of the boards.
 #[derive(Clone, Copy)]
 pub struct RoundRobin {
-    boards: usize,
-    place: usize,
-    ghost few: { boards ≤ 16 },
-    ghost within: { place < boards },
+    ring: Ring,
+    ghost few: { ring.len ≤ 16 },
 }

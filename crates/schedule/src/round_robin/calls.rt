@@ -9,7 +9,7 @@ ghost use Rattle.schedule.specs.Laws.{round_robin_lawful};
 
 use crate::Schedule;
 use crate::refusal::ScheduleRefusal;
-use crate::ring::next_place;
+use crate::ring::Ring;
 use crate::round_robin::RoundRobin;
 
 impl RoundRobin {
@@ -25,25 +25,14 @@ impl RoundRobin {
         Ok(RoundRobin::of(boards))
     }
 
+    #[tactic(auto, unfolding(crate::specs::Meanings::round_owners))]
     fn of(boards: usize) -> RoundRobin
         requires { (0 < boards) × (boards ≤ 16) }
         ensures { (round_count result ≡ boards) × (round_owners result ≡ in_turn boards) }
     {
-        RoundRobin { boards, place: 0 }
-    }
-
-    fn advance(&mut self)
-        ensures rest { round_owners self.new ≡ later (round_owners self.old) }
-        ensures count { round_count self.new ≡ round_count self.old }
-    {
-        self.place = next_place(self.place, self.boards);
-    }
-
-    fn owner(&self) -> usize
-        ensures value { result ≡ round_owners self.now 0 }
-        ensures bound { (result < round_count self.now) × (result < 16) }
-    {
-        self.place
+        RoundRobin {
+            ring: Ring::start(boards),
+        }
     }
 }
 
@@ -57,16 +46,17 @@ impl Schedule for RoundRobin {
     ghost lawful = { round_robin_lawful };
 
     fn boards(&self) -> usize {
-        self.boards
+        self.ring.len()
     }
 
     fn period(&self) -> usize {
-        self.boards
+        self.ring.len()
     }
 
+    #[tactic(auto, unfolding(crate::specs::Meanings::round_owners))]
     fn next_owner(&mut self) -> usize {
-        let owner = self.owner();
-        self.advance();
+        let owner = self.ring.place();
+        self.ring.advance();
         owner
     }
 }

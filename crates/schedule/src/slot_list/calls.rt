@@ -8,7 +8,7 @@ ghost use Rattle.schedule.specs.Laws.{slot_list_lawful};
 
 use crate::Schedule;
 use crate::refusal::ScheduleRefusal;
-use crate::ring::next_place;
+use crate::ring::Ring;
 use crate::slot_list::SlotList;
 use crate::slot_list::scan::{has_foreign, has_missing, padded};
 
@@ -32,6 +32,7 @@ fn tests(boards: usize, entries: &[u8]) -> Result<(), ScheduleRefusal>
 }
 
 // The first refusal that fits a list.
+#[tactic(auto, using(crate::specs::Refusals::first_answer))]
 fn accepts(boards: usize, entries: &[u8]) -> Result<(), ScheduleRefusal>
     ensures refuses { result_err result ≡ list_refusal boards entries.now }
     ensures first { MatchResult result (λ _. Accepted boards entries.now) (λ e. FirstFit boards entries.now e) }
@@ -41,14 +42,14 @@ fn accepts(boards: usize, entries: &[u8]) -> Result<(), ScheduleRefusal>
 
 impl SlotList {
     // A list that is accepted, from its first entry on.
+    #[tactic(auto, using(crate::specs::Laws::list_starts))]
     fn of(boards: usize, entries: &[u8]) -> SlotList
         requires { is_some (list_refusal boards entries.now) ≡ false }
         ensures { Means result boards entries.now }
     {
         SlotList {
             entries: padded(entries),
-            len: entries.len(),
-            place: 0,
+            ring: Ring::start(entries.len()),
             boards,
         }
     }
@@ -71,19 +72,12 @@ impl SlotList {
         Ok(())
     }
 
+    #[tactic(auto, using(crate::specs::Laws::reads), unfolding(crate::specs::Meanings::list_owners))]
     fn owner(&self) -> usize
         ensures value { result ≡ list_owners self.now 0 }
         ensures bound { (result < list_count self.now) × (result < 16) }
     {
-        self.entries[self.place] as usize
-    }
-
-    fn advance(&mut self)
-        ensures rest { list_owners self.new ≡ later (list_owners self.old) }
-        ensures count { list_count self.new ≡ list_count self.old }
-        ensures span { list_span self.new ≡ list_span self.old }
-    {
-        self.place = next_place(self.place, self.len);
+        self.entries[self.ring.place()] as usize
     }
 }
 
@@ -101,12 +95,13 @@ impl Schedule for SlotList {
     }
 
     fn period(&self) -> usize {
-        self.len
+        self.ring.len()
     }
 
+    #[tactic(auto, using(crate::specs::Laws::list_later))]
     fn next_owner(&mut self) -> usize {
         let owner = self.owner();
-        self.advance();
+        self.ring.advance();
         owner
     }
 }

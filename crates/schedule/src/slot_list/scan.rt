@@ -6,36 +6,21 @@ ghost use Rattle.schedule.specs.Lists.{foreign, missing, names};
 pub(crate) fn has_foreign(entries: &[u8], boards: usize) -> bool
     ensures { result ≡ foreign boards entries.now }
 {
-    for board in entries {
-        if *board as usize >= boards {
-            return true;
-        }
-    }
-    false
+    entries.iter().any(|board| *board as usize >= boards)
 }
 
 // Whether some entry is `board`.
 fn has_entry(entries: &[u8], board: usize) -> bool
     ensures { result ≡ names board entries.now }
 {
-    for entry in entries {
-        if *entry as usize == board {
-            return true;
-        }
-    }
-    false
+    entries.iter().any(|entry| *entry as usize == board)
 }
 
 // Whether some board below `boards` has no entry.
 pub(crate) fn has_missing(entries: &[u8], boards: usize) -> bool
     ensures { result ≡ missing boards entries.now }
 {
-    for board in 0..boards {
-        if !has_entry(entries, board) {
-            return true;
-        }
-    }
-    false
+    (0..boards).any(|board| !has_entry(entries, board))
 }
 
 // The entries at the front of an array.
@@ -44,8 +29,6 @@ pub(crate) fn padded(entries: &[u8]) -> [u8; 64]
     ensures { take (length entries.now) result ≡ entries.now }
 {
     let mut all = [0; 64];
-    for (i, board) in entries.iter().enumerate() {
-        all[i] = *board;
-    }
+    all[..entries.len()].copy_from_slice(entries);
     all
 }
