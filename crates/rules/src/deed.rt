@@ -1,6 +1,8 @@
 // What the owner of a slot does.
-ghost use Rattle.std.specs.Prelude.{◌≡◌};
+ghost use Rattle.std.specs.Prelude.{◌≡◌, Some};
 ghost use Rattle.rules.specs.Words.{deed_word};
+
+use std::fmt;
 
 #[derive(Clone, Copy, PartialEq, Eq, Debug)]
 pub enum Deed {
@@ -34,5 +36,13 @@ impl Deed {
             Deed::Data => "Data",
             Deed::PutM => "PutM",
         }
+    }
+}
+
+impl fmt::Display for Deed {
+    ghost output = { λ d. Some (deed_word d) };
+
+    fn fmt<W: fmt::Write>(&self, f: &mut fmt::Formatter<W>) -> fmt::Result {
+        f.write_str(self.word())
     }
 }

@@ -9,23 +9,23 @@ pub enum Kind {
     Store(u64),
 }
 
-impl Kind {
-    // What it asks for, without the word.
-    pub fn access(self) -> Access
-        ensures { result ≡ access_of self }
-    {
-        match self {
-            Kind::Load => Access::Load,
-            Kind::Store(_) => Access::Store,
-        }
-    }
-}
-
 // A load or a store, whatever its word.
 #[derive(Clone, Copy, PartialEq, Eq, Debug)]
 pub enum Access {
     Load,
     Store,
+}
+
+// What a request asks for, without the word.
+impl From<Kind> for Access {
+    ghost from_gives = { λ k r. r ≡ access_of k };
+
+    fn from(kind: Kind) -> Access {
+        match kind {
+            Kind::Load => Access::Load,
+            Kind::Store(_) => Access::Store,
+        }
+    }
 }
 
 #[derive(Clone, Copy, PartialEq, Eq, Debug)]
