@@ -48,17 +48,11 @@ pub(crate) fn is_allowed(state: State, event: Event, other: State) -> bool
 pub(crate) fn next_heard(state: State, heard: Option<Event>) -> State
     ensures { result ≡ after_heard state heard }
 {
-    match heard {
-        Some(event) => state.next(event),
-        None => state,
-    }
+    heard.map_or(state, |event| state.next(event))
 }
 
 pub(crate) fn meets_heard(state: State, heard: Option<Event>) -> bool
     ensures { result ≡ hears state heard }
 {
-    match heard {
-        Some(event) => state.meets(event),
-        None => true,
-    }
+    heard.is_none_or(|event| state.meets(event))
 }

@@ -111,6 +111,7 @@ fn pair_safe(s: State, e: Event, n: Entry, t: State) -> bool
 }
 
 // The tests at an entry of the table.
+#[tactic(auto, using(crate::proofs::Checked::safe))]
 fn board_passes(s: State, e: Event) -> bool
     ensures tested { result ≡ board_safe s e (entry_of s e) }
     ensures passed { result ≡ true }
@@ -118,6 +119,7 @@ fn board_passes(s: State, e: Event) -> bool
     board_safe(s, e, s.entry(e))
 }
 
+#[tactic(auto, using(crate::proofs::Checked::pair))]
 fn pair_passes(s: State, e: Event, t: State) -> bool
     ensures tested { result ≡ pair_safe s e (entry_of s e) t }
     ensures passed { result ≡ true }
@@ -126,6 +128,7 @@ fn pair_passes(s: State, e: Event, t: State) -> bool
 }
 
 // Runs the tests at every entry: none is refused, and so the law of the table holds at any state and event.
+#[tactic(auto, using(crate::proofs::Checked::table_passes_is_true, crate::proofs::Laws::table_law))]
 pub fn table_is_sound() -> bool
     ensures sound { result ≡ true }
     ensures checked { table_passes ≡ true }

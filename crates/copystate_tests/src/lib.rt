@@ -78,10 +78,8 @@ IMdS|....dw..
 
     #[test]
     fn codes_count_up_and_the_check_passes(rt: HostRuntime) {
-        let mut row = 0;
-        for state in State::ALL {
+        for (row, state) in State::ALL.iter().enumerate() {
             assert!(rt; state.code() == row);
-            row = state.code() + 1;
         }
         assert!(rt; table_is_sound());
     }
