@@ -15,8 +15,8 @@ mod tests {
     // 65 words, no two alike.
     fn sample() -> [u64; 65] {
         let mut list = [0; 65];
-        for i in 0..65 {
-            list[i] = i as u64 + 100;
+        for (place, word) in list.iter_mut().enumerate() {
+            *word = place as u64 + 100;
         }
         list
     }
@@ -31,12 +31,12 @@ mod tests {
     }
 
     fn is_list<M: LineMemory>(memory: &M, list: &[u64]) -> bool {
-        for k in 0..list.len() {
-            if memory.read(k) != list[k] {
-                return false;
-            }
-        }
-        memory.lines() == list.len() && memory.read(list.len()) == 0 && memory.read(usize::MAX) == 0
+        list.iter()
+            .enumerate()
+            .all(|(place, word)| memory.read(place) == *word)
+            && memory.lines() == list.len()
+            && memory.read(list.len()) == 0
+            && memory.read(usize::MAX) == 0
     }
 
     fn flat_case(rt: &impl Abort, length: usize, line: usize) {
