@@ -1,6 +1,7 @@
 -- The check of the table, computed once, and what it says of each entry.
-use Rattle.std.proofs.Common.{◌≡◌, ℕ, zero, suc, ◌<◌, Bool, true, ◌&&◌, List, [], ◌∷◌, length, get_or, refl, le_of_suc-le-suc, not-suc-le-zero, lit<}
+use Rattle.std.proofs.Common.{◌≡◌, ℕ, ◌<◌, Bool, true, ◌&&◌, length, get_or, refl, lit<}
 use Rattle.std.proofs.lemmas.Bool.{and_parts}
+use Rattle.std.proofs.lemmas.List.Sums.{AllPass-from_list_all as at}
 use Rattle.copystate.specs.declared.states.State.{State}
 use Rattle.copystate.specs.declared.states.State.TheVariants.{I, S, M, ISd, IMd, SMw, MIwb, MSwb, IMdI, ISdI, IMdS}
 use Rattle.copystate.specs.declared.events.Event.{Event}
@@ -13,11 +14,6 @@ use Rattle.copystate.specs.Soundness.{states, events, safety_facts, rule_facts, 
 pub table_passes_is_true : table_passes ≡ true
 unfolding table_passes
 table_passes_is_true = refl
-
-at : {X : Type 0} (f : X → Bool) (xs : List X) → every f xs ≡ true → (k : ℕ) (d : X) → k < length xs → f (get_or xs k d) ≡ true
-at f [] t k d h = absurd (not-suc-le-zero h)
-at f (x ∷ xs) t zero d h = (and_parts (f x) (every f xs) t).0
-at f (x ∷ xs) t (suc k) d h = at f xs (and_parts (f x) (every f xs) t).1 k d (le_of_suc-le-suc h)
 
 pub at_state : (f : State → Bool) → every f states ≡ true → (x : State) → f x ≡ true
 at_state f t I = at f states t 0 I (lit< tt)

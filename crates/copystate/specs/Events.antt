@@ -1,5 +1,6 @@
 -- The events' codes, and what other boards hear of an event.
-use Rattle.std.specs.Prelude.{ℕ, Bool, false, ◌||◌, List, [], ◌∷◌, Some, None, Option, ◌==◌}
+use Rattle.std.specs.Prelude.{ℕ, Bool, List, [], ◌∷◌, Some, None, Option, ◌==◌}
+use Rattle.std.specs.List.{list_any}
 use Rattle.copystate.specs.declared.events.Event.{Event}
 use Rattle.copystate.specs.declared.events.Event.TheVariants.{PostStore, SendGetS, SendGetM, Replace, OwnData, OwnUpg, OwnPutM, OtherGetS, OtherGetM, OtherUpg}
 
@@ -19,8 +20,7 @@ abbrev pub same_event : Event → Event → Bool
 same_event e f = event_code e == event_code f
 
 abbrev pub one_of : List Event → Event → Bool
-one_of [] e = false
-one_of (f ∷ fs) e = same_event e f || one_of fs e
+one_of fs e = list_any (same_event e) fs
 
 -- the event is a message of another board
 abbrev pub of_another : Event → Bool

@@ -1,5 +1,6 @@
 -- The states' codes, and what a board may do in each state.
-use Rattle.std.specs.Prelude.{ℕ, Bool, false, ◌||◌, List, [], ◌∷◌, ◌==◌}
+use Rattle.std.specs.Prelude.{ℕ, Bool, List, [], ◌∷◌, ◌==◌}
+use Rattle.std.specs.List.{list_any}
 use Rattle.copystate.specs.declared.states.State.{State}
 use Rattle.copystate.specs.declared.states.State.TheVariants.{I, S, M, ISd, IMd, SMw, MIwb, MSwb, IMdI, ISdI, IMdS}
 
@@ -54,8 +55,7 @@ role_code upgrade = 6
 role_code write_back = 7
 
 abbrev pub among : List Role → Role → Bool
-among [] r = false
-among (q ∷ qs) r = role_code q == role_code r || among qs r
+among qs r = list_any (λ q. role_code q == role_code r) qs
 
 -- the board has the line's word
 abbrev pub copies : State → Bool

@@ -1,5 +1,6 @@
 -- What the tests of the table are made of.
-use Rattle.std.specs.Prelude.{Bool, true, false, not, ◌&&◌, List, [], ◌∷◌}
+use Rattle.std.specs.Prelude.{Bool, true, false, not, List}
+use Rattle.std.specs.List.{list_all}
 
 abbrev pub implies : Bool → Bool → Bool
 implies true b = b
@@ -11,5 +12,4 @@ same false b = not b
 
 -- the test passes at each of the list
 abbrev pub every : {X : Type 0} → (X → Bool) → List X → Bool
-every f [] = true
-every f (x ∷ xs) = f x && every f xs
+every = list_all

@@ -1,6 +1,7 @@
 -- The state of a board that waits is fixed by what it wants and who waits behind it.
 -- Of each board of a row, oldest first, the list says whether it waits to write.
-use Rattle.std.specs.Prelude.{◌≡◌, Bool, true, false, cond, ◌||◌, List, [], ◌∷◌, ◌++◌}
+use Rattle.std.specs.Prelude.{◌≡◌, Bool, true, false, cond, List, [], ◌∷◌, ◌++◌}
+use Rattle.std.specs.List.{list_any}
 use Rattle.copystate.specs.declared.states.State.{State}
 use Rattle.copystate.specs.declared.states.State.TheVariants.{I, S, M, ISd, IMd, SMw, MIwb, MSwb, IMdI, ISdI, IMdS}
 use Rattle.copystate.specs.declared.events.Event.{Event}
@@ -15,8 +16,7 @@ someone [] = false
 someone (w ∷ ws) = true
 
 abbrev pub occurs : Bool → List Bool → Bool
-occurs v [] = false
-occurs v (w ∷ ws) = same v w || occurs v ws
+occurs v = list_any (same v)
 
 abbrev pub a_store : List Bool → Bool
 a_store = occurs true
