@@ -12,7 +12,8 @@ use crate::ring::Ring;
 use crate::slot_list::SlotList;
 use crate::slot_list::scan::{has_foreign, has_missing, padded};
 
-// The tests of a list for `boards` boards, in the order of their numbers.
+// The tests of a list for `boards` boards, in the order of their numbers. Apart from `accepts`, whose law `search` does not
+// prove at each of these returns.
 fn tests(boards: usize, entries: &[u8]) -> Result<(), ScheduleRefusal>
     ensures { result_err result ≡ list_refusal boards entries.now }
 {

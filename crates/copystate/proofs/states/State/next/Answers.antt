@@ -1,4 +1,4 @@
--- The law of the table at the state and the event.
+-- The law of the table at the state and the event. `using` on the function gives the lemma to `grind`, which does not prove it here.
 use Rattle.copystate.proofs.Laws.{entry_law}
 use Rattle.copystate.proofs.states.State.next.Goals as goal
 
