@@ -9,7 +9,7 @@ use Rattle.schedule.specs.declared.round_robin.RoundRobin.{RoundRobin}
 use Rattle.schedule.specs.declared.slot_list.SlotList.{SlotList}
 use Rattle.schedule.specs.Accepted.{some_board, few_boards, few_entries, some_entry, entry_below, board_named}
 use Rattle.schedule.specs.Refusals.{kept_accepted}
-use Rattle.schedule.specs.Rings.{places, reaches, stays}
+use Rattle.schedule.specs.Rings.{around_start, places, reaches, stays}
 
 -- The row that reads a list from a place on, round and round.
 abbrev pub around : List ℕ → ℕ → ℕ → ℕ → ℕ
@@ -51,6 +51,11 @@ list_later s t same long rest = λ i k. slice_index (take (long i) (same i)) (re
 pub list_starts : (s : SlotList) (xs : List ℕ) → take (length xs) s.entries ≡ xs → s.ring.len ≡ length xs → places s.ring.len s.ring.place ≡ in_turn (length xs) → list_owners s ≡ repeated xs
 unfolding in_turn repeated list_owners
 list_starts s xs kept long start = ap (λ n k. slice_index (take n s.entries) (places s.ring.len s.ring.place k)) long ∙ (λ i k. slice_index (kept i) (start i k))
+
+-- A list that is kept at the front of another.
+pub starts : (xs kept : List ℕ) → take (length xs) kept ≡ xs → ◌≡◌ {A = ℕ → ℕ} (around (take (length xs) kept) (length xs) 0) (repeated xs)
+unfolding repeated places
+starts xs kept e = ap (λ l. around l (length xs) 0) e ∙ around_start (λ k. slice_index xs k) (length xs)
 
 -- An entry read in its place.
 pub reads : (xs : List ℕ) (p place : ℕ) → place < p → slice_index xs place ≡ around (take p xs) p place 0

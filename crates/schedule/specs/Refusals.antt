@@ -1,9 +1,9 @@
 -- The computed refusal is the first that fits.
-use Rattle.std.specs.Prelude.{◌≡◌, ℕ, ◌<◌, ◌≤◌, Bool, true, false, not, List, length, is_some, Some, None, Ok, Err, Decides, Option, Result, MatchOption, MatchResult, ◌≢◌, nat_eq, nat_le, slice_index, slice_index_or, refl}
-use Rattle.std.proofs.Common.{sym, subst, get_or, arith}
+use Rattle.std.specs.Prelude.{◌≡◌, ℕ, ◌+◌, ◌<◌, ◌≤◌, Bool, true, false, not, List, length, is_some, Some, None, Ok, Err, Decides, Option, Result, MatchOption, MatchResult, ◌≢◌, nat_eq, nat_le, slice_index, slice_index_or, refl}
+use Rattle.std.proofs.Common.{sym, subst, get_or, ◌∙◌, inl, inr, arith}
 use Rattle.std.specs.Result.{result_err}
 use Rattle.std.specs.List.{list_any, range_with_len}
-use Rattle.std.proofs.lemmas.Bool.{both_ways, leb-true, le-leb, cond_both}
+use Rattle.std.proofs.lemmas.Bool.{both_ways, cases_Bool, cases_lt, leb-true, le-leb, cond_both}
 use Rattle.std.proofs.lemmas.Bool.Decides.{Decides-eqb, Decides-ltb, Decides-or, Decides-not, Decides-like, Decides-by_or, not_from_Decides}
 use Rattle.std.proofs.lemmas.List.{get_or_default}
 use Rattle.std.proofs.lemmas.List.FromFn.{length-range_with_len, get_or-range_with_len}
@@ -112,3 +112,24 @@ module _ (n : ℕ) (xs : List ℕ) where
       by : (o : Option ScheduleRefusal) → is_some o ≡ false → Verdict o → Accepted n xs
       by None e v = v
       by (Some f) e v = absurd (both_ways true e refl)
+
+-- The test for a board that is missing, board by board.
+pub missing_more : (xs : List ℕ) (b : ℕ) → missing b xs ≡ false → names b xs ≡ true → missing (b + 1) xs ≡ false
+missing_more xs b none named =
+    elim (cases_Bool (missing (b + 1) xs)) [
+      | inr f ↦ f
+      | inl t ↦
+          let w = (missing_decides (b + 1) xs).0 t in
+          let at = (names_decides b xs).0 named in
+          elim (cases_lt w.0 b) [
+            | inl lt ↦ absurd (not_from_Decides (missing b xs) (missing_decides b xs) none (w.0, lt, w.2))
+            | inr le ↦ let e : b ≡ w.0 = omega (arith, w.1) in absurd (w.2 at.0 at.1 (at.2 ∙ e))
+          ]
+    ]
+
+pub missing_at : (n : ℕ) (xs : List ℕ) (b : ℕ) → b < n → names b xs ≡ false → true ≡ missing n xs
+missing_at n xs b h unnamed =
+    sym ((missing_decides n xs).1 (b, h, λ k lt e. not_from_Decides (names b xs) (names_decides b xs) unnamed (k, lt, e)))
+
+pub missing_all : (n : ℕ) (xs : List ℕ) (b : ℕ) → b ≤ n → n ≤ b → missing b xs ≡ false → false ≡ missing n xs
+missing_all n xs b le ge none = let e : b ≡ n = omega arith in sym (subst (λ m. missing m xs ≡ false) e none)

@@ -28,18 +28,22 @@ unfolding places
 stays p s h = let e : s ≡ s + 0 = omega arith in sym (mod-eq_of_lt h) ∙ ap (λ n. n % p) e
 
 -- The place after s, and k more.
-steps : (p s t k : ℕ) → t ≡ (s + 1) % p → (t + k) % p ≡ (s + (k + 1)) % p
+pub steps : (p s t k : ℕ) → t ≡ (s + 1) % p → (t + k) % p ≡ (s + (k + 1)) % p
 steps p s t k e =
     let a : s + 1 + k ≡ s + (k + 1) = omega arith in
     ap (λ n. (n + k) % p) e ∙ mod-add-mod (s + 1) p k ∙ ap (λ n. n % p) a
 
-wraps : (p s : ℕ) → s < p → p ≤ s + 1 → 0 ≡ (s + 1) % p
+pub wraps : (p s : ℕ) → s < p → p ≤ s + 1 → 0 ≡ (s + 1) % p
 wraps p s h k = let e : s + 1 ≡ 0 + p = omega arith in sym (ap (λ n. n % p) e ∙ add-mod_right 0 p ∙ mod-eq_of_lt (omega arith))
 
--- From the next place on, the row is the rest of the row.
+-- One step on, the row is the rest of the row.
+pub around_later : (f : ℕ → ℕ) (p place next : ℕ) → next ≡ (place + 1) % p → ◌≡◌ {A = ℕ → ℕ} (λ k. f ((next + k) % p)) (later (λ k. f ((place + k) % p)))
+unfolding later
+around_later f p place next e = fun_ext (λ k. ap f (steps p place next k e))
+
 later_from : (p s t : ℕ) → t ≡ (s + 1) % p → places p t ≡ later (places p s)
-unfolding places later
-later_from p s t e = fun_ext (λ k. steps p s t k e)
+unfolding places
+later_from p s t e = around_later (λ n. n) p s t e
 
 pub later_up : (p s : ℕ) → s + 1 < p → places p (s + 1) ≡ later (places p s)
 later_up p s h = later_from p s (s + 1) (sym (mod-eq_of_lt h))
@@ -47,7 +51,10 @@ later_up p s h = later_from p s (s + 1) (sym (mod-eq_of_lt h))
 pub later_round : (p s : ℕ) → s < p → p ≤ s + 1 → places p 0 ≡ later (places p s)
 later_round p s h k = later_from p s 0 (wraps p s h k)
 
--- From place 0 on, the places in turn.
+-- The row that starts at place 0.
+pub around_start : (f : ℕ → ℕ) (p : ℕ) → ◌≡◌ {A = ℕ → ℕ} (λ k. f ((0 + k) % p)) (λ k. f (k % p))
+around_start f p = fun_ext (λ k. let e : 0 + k ≡ k = omega arith in ap (λ m. f (m % p)) e)
+
 pub from_zero : (p : ℕ) → places p 0 ≡ in_turn p
 unfolding places in_turn
-from_zero p = fun_ext (λ k. let e : 0 + k ≡ k = omega arith in ap (λ m. m % p) e)
+from_zero p = around_start (λ n. n) p
