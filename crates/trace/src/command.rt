@@ -153,13 +153,13 @@ fn slots(words: &[Word]) -> Result<Command, LineFault>
 }
 
 // The boards of a slot list, as many as there are words.
-fn boards(heap: Global, words: &[Word]) -> Result<Vec<u8>, TraceFault>
+fn boards(alloc: Global, words: &[Word]) -> Result<Vec<u8>, TraceFault>
     ensures { Told vec_items result (boards_of words.now) }
 {
     if !all_numbers(words) {
         return Err(TraceFault::Line(LineFault::NotANumber));
     }
-    let mut list = Vec::new(heap);
+    let mut list = Vec::new(alloc);
     for word in words {
         let board = BOARD.take(*word)?;
         list.push(board as u8)?;
@@ -174,7 +174,7 @@ fn in_length(line: &[u8]) -> bool
 }
 
 // A line, without its line end, as its letter and its words.
-fn take_apart(heap: Global, line: &[u8]) -> Result<Parts, TraceFault>
+fn take_apart(alloc: Global, line: &[u8]) -> Result<Parts, TraceFault>
     ensures { Told parts_of result (apart line.now) }
 {
     if !in_length(line) {
@@ -183,10 +183,10 @@ fn take_apart(heap: Global, line: &[u8]) -> Result<Parts, TraceFault>
     match line {
         [letter] => Ok(Parts {
             letter: *letter,
-            words: Vec::new(heap),
+            words: Vec::new(alloc),
         }),
         [letter, b' ', rest @ ..] => {
-            let words = read_words(heap, rest)?;
+            let words = read_words(alloc, rest)?;
             Ok(Parts {
                 letter: *letter,
                 words,
@@ -221,30 +221,30 @@ fn command_of(letter: u8, words: &[Word]) -> Result<Command, LineFault>
 }
 
 // The first line of a trace.
-pub fn read_fabric(heap: Global, line: &[u8]) -> Result<FabricLine, TraceFault>
+pub fn read_fabric(alloc: Global, line: &[u8]) -> Result<FabricLine, TraceFault>
     ensures value { Told set_up result (fabric_order line.now) }
     ensures few { IfOk result (λ f. f.lines ≤ 64) }
 {
-    let parts = take_apart(heap, line)?;
+    let parts = take_apart(alloc, line)?;
     Ok(fabric_of(parts.letter, parts.words.as_slice())?)
 }
 
 // The second line: the boards of a slot list, or none where it is no slot list.
-pub fn read_list(heap: Global, line: &[u8]) -> Result<Option<Vec<u8>>, TraceFault>
+pub fn read_list(alloc: Global, line: &[u8]) -> Result<Option<Vec<u8>>, TraceFault>
     ensures { Told (options.option_map vec_items) result (list_order line.now) }
 {
-    let parts = take_apart(heap, line)?;
+    let parts = take_apart(alloc, line)?;
     if parts.letter != b'O' {
         return Ok(None);
     }
-    let list = boards(heap, parts.words.as_slice())?;
+    let list = boards(alloc, parts.words.as_slice())?;
     Ok(Some(list))
 }
 
 // Any later line.
-pub fn read_command(heap: Global, line: &[u8]) -> Result<Command, TraceFault>
+pub fn read_command(alloc: Global, line: &[u8]) -> Result<Command, TraceFault>
     ensures { Told meaning result (call_order line.now) }
 {
-    let parts = take_apart(heap, line)?;
+    let parts = take_apart(alloc, line)?;
     Ok(command_of(parts.letter, parts.words.as_slice())?)
 }

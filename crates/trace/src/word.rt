@@ -53,10 +53,10 @@ pub(crate) fn read_word(word: &[u8]) -> Word
 }
 
 // The words of `s`: one more than it has spaces.
-pub(crate) fn read_words(heap: Global, s: &[u8]) -> Result<Vec<Word>, AllocError>
+pub(crate) fn read_words(alloc: Global, s: &[u8]) -> Result<Vec<Word>, AllocError>
     ensures { IfOk result (λ v. v.items ≡ map word_of (words s.now)) }
 {
-    let mut found = Vec::new(heap);
+    let mut found = Vec::new(alloc);
     let mut rest = s;
     loop {
         let (word, after) = cut(rest, b' ');
