@@ -2,7 +2,9 @@
 use Rattle.std.specs.Prelude.{ℕ, ◌^◌, Bool, true, false, cond, ◌&&◌, List, [], ◌∷◌, length, Some, None, Ok, Err, Option, Result, ◌==◌, nat_le, nat_lt, slice_index}
 use Rattle.trace.specs.declared.fault.LineFault.{LineFault}
 use Rattle.trace.specs.declared.fault.LineFault.TheVariants as fault
+use Rattle.trace.specs.declared.word.MemoryKind.{MemoryKind}
 use Rattle.trace.specs.declared.word.MemoryKind.TheVariants.{Flat, Window, Chained}
+use Rattle.trace.specs.declared.word.UnknownKind.{UnknownKind}
 use Rattle.trace.specs.declared.word.Field.{Field}
 use Rattle.trace.specs.declared.word.Word.{Word}
 use Rattle.trace.specs.declared.word.Word.TheVariants.{Number, Large, Kind, Other}
@@ -12,6 +14,10 @@ use Rattle.trace.specs.Pieces.{pieces}
 -- Words are split by one space.
 abbrev pub words : List ℕ → List (List ℕ)
 words = pieces 32
+
+-- The memory of a letter.
+abbrev pub kind_of : ℕ → Result MemoryKind UnknownKind
+kind_of c = cond (c == 65) (Ok Flat) (cond (c == 66) (Ok Window) (cond (c == 67) (Ok Chained) (Err (record { 0 = c }))))
 
 abbrev is_letter : ℕ → List ℕ → Bool
 is_letter c w = length w == 1 && slice_index w 0 == c

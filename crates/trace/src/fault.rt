@@ -1,11 +1,12 @@
 // Why a trace ends early. A refused schedule is carried whole into the line's fault, and that into the trace's.
-ghost use Rattle.std.specs.Prelude.{◌≡◌};
+ghost use Rattle.std.specs.Prelude.{◌≡◌, Some};
 ghost use Rattle.trace.specs.declared.fault.LineFault.TheVariants as line;
 ghost use Rattle.trace.specs.declared.fault.TraceFault.TheVariants as whole;
-ghost use Rattle.trace.specs.Faults.{cause};
+ghost use Rattle.trace.specs.Faults.{cause, fault_text};
 
 use schedule::refusal::ScheduleRefusal;
 use std::alloc::{AllocError, AllocFailed};
+use std::fmt;
 
 // What is wrong with a line.
 #[derive(Clone, Copy, PartialEq, Eq, Debug)]
@@ -47,6 +48,23 @@ impl LineFault {
     }
 }
 
+// As a listing shows it: the cause, and the number of the refusal where a schedule is refused.
+impl fmt::Display for LineFault {
+    ghost output = { λ f. Some (fault_text f) };
+
+    fn fmt<W: fmt::Write>(&self, f: &mut fmt::Formatter<W>) -> fmt::Result {
+        let cause = self.cause();
+        match self {
+            LineFault::Schedule(refusal) => {
+                let refusal = refusal.number();
+                write!(f, "{cause} {refusal}")
+            }
+            _ => write!(f, "{cause}"),
+        }
+    }
+}
+
+// By hand, for the clauses name the error that `?` makes of each.
 impl From<ScheduleRefusal> for LineFault {
     ghost from_gives = { λ e r. r ≡ line.Schedule e };
 

@@ -1,6 +1,6 @@
 // The words of a line, split by one space each, and the numbers that its fields take.
 ghost use Rattle.std.specs.Prelude.{◌≡◌, ℕ, ◌<◌, ◌≤◌, map, length, IfOk, slice_index, slice_index_or};
-ghost use Rattle.trace.specs.Words.{word_of, words, in_field, is_number, all_numbers, fields_of};
+ghost use Rattle.trace.specs.Words.{word_of, words, in_field, is_number, kind_of, all_numbers, fields_of};
 
 use crate::fault::LineFault;
 use crate::number::{CAP, read_number};
@@ -13,6 +13,25 @@ pub enum MemoryKind {
     Flat,
     Window,
     Chained,
+}
+
+// A byte that is the letter of no memory.
+#[derive(Clone, Copy, PartialEq, Eq, Debug)]
+pub struct UnknownKind(pub u8);
+
+impl TryFrom<u8> for MemoryKind {
+    type Error = UnknownKind;
+
+    ghost try_from_gives = { λ letter r. r ≡ kind_of letter };
+
+    fn try_from(letter: u8) -> Result<Self, UnknownKind> {
+        match letter {
+            b'A' => Ok(MemoryKind::Flat),
+            b'B' => Ok(MemoryKind::Window),
+            b'C' => Ok(MemoryKind::Chained),
+            _ => Err(UnknownKind(letter)),
+        }
+    }
 }
 
 // What a word is: a number that a field may take, a larger one, the letter of a memory, or none of these.
@@ -35,20 +54,20 @@ pub(crate) struct Field {
 pub(crate) fn read_word(word: &[u8]) -> Word
     ensures { result ≡ word_of word.now }
 {
-    match word {
-        [b'A'] => Word::Kind(MemoryKind::Flat),
-        [b'B'] => Word::Kind(MemoryKind::Window),
-        [b'C'] => Word::Kind(MemoryKind::Chained),
-        _ => match read_number(word) {
-            None => Word::Other,
-            Some(n) => {
-                if n < CAP {
-                    Word::Number(n as u64)
-                } else {
-                    Word::Large
-                }
+    if let [letter] = word
+        && let Ok(kind) = MemoryKind::try_from(*letter)
+    {
+        return Word::Kind(kind);
+    }
+    match read_number(word) {
+        None => Word::Other,
+        Some(n) => {
+            if n < CAP {
+                Word::Number(n as u64)
+            } else {
+                Word::Large
             }
-        },
+        }
     }
 }
 
