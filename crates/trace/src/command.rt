@@ -1,21 +1,14 @@
 // A line of a trace: letter, space and the words of the rest.
-ghost use Rattle.std.specs.Prelude.{◌≡◌, ◌≤◌, length, IfOk, vec_items, nat_le};
+ghost use Rattle.std.specs.Prelude.{◌≡◌, length, vec_items, nat_le};
 ghost use Rattle.std.specs.Option as options;
 ghost use Rattle.std.specs.Result.{result_map_both};
 ghost use Rattle.trace.specs.Commands.{apart, boards_of, call_order, called, collect_of, fabric_letter, fabric_of, fabric_order, guard_of, list_order, load_of, meaning, parts_of, replace_of, set_up, slots_of, store_of};
 ghost use Rattle.trace.specs.Faults.{Told};
 
 use crate::fault::{LineFault, TraceFault};
+pub use crate::opening::FabricLine;
 use crate::word::{Field, MemoryKind, Word, all_numbers, read_fields, read_words};
 use std::alloc::Global;
-
-// The first line: what the fabric is made of.
-#[derive(Clone, Copy)]
-pub struct FabricLine {
-    pub boards: u8,
-    pub lines: u8,
-    pub kind: MemoryKind,
-}
 
 // What a line after the opening ones asks for.
 #[derive(Clone, Copy)]
@@ -76,8 +69,7 @@ const KEY: Field = Field {
 const COUNT: Field = Field { low: 1, high: 999 };
 
 fn fabric(words: &[Word]) -> Result<FabricLine, LineFault>
-    ensures value { result_map_both set_up (λ e. e) result ≡ fabric_of words.now }
-    ensures few { IfOk result (λ f. f.lines ≤ 64) }
+    ensures { result_map_both set_up (λ e. e) result ≡ fabric_of words.now }
 {
     let [boards, lines, last] = words else {
         return Err(LineFault::WordCount);
@@ -197,8 +189,7 @@ fn take_apart(alloc: Global, line: &[u8]) -> Result<Parts, TraceFault>
 }
 
 fn fabric_of(letter: u8, words: &[Word]) -> Result<FabricLine, LineFault>
-    ensures value { result_map_both set_up (λ e. e) result ≡ fabric_letter letter words.now }
-    ensures few { IfOk result (λ f. f.lines ≤ 64) }
+    ensures { result_map_both set_up (λ e. e) result ≡ fabric_letter letter words.now }
 {
     match letter {
         b'F' => fabric(words),
@@ -222,8 +213,7 @@ fn command_of(letter: u8, words: &[Word]) -> Result<Command, LineFault>
 
 // The first line of a trace.
 pub fn read_fabric(alloc: Global, line: &[u8]) -> Result<FabricLine, TraceFault>
-    ensures value { Told set_up result (fabric_order line.now) }
-    ensures few { IfOk result (λ f. f.lines ≤ 64) }
+    ensures { Told set_up result (fabric_order line.now) }
 {
     let parts = take_apart(alloc, line)?;
     Ok(fabric_of(parts.letter, parts.words.as_slice())?)

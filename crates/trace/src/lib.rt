@@ -4,5 +4,6 @@
 pub mod command;
 pub mod fault;
 pub mod number;
+pub mod opening;
 pub mod text;
 pub mod word;
