@@ -10,18 +10,8 @@ pub fn cut(s: &[u8], end: u8) -> (&[u8], Option<&[u8]>)
     ensures law { CutAt end s.now result.0.now (option_map (λ x. x.now) result.1) }
     ensures less { IfSome result.1 (λ t. length t.now < length s.now) }
 {
-    halves(s, end)
-}
-
-fn halves(s: &[u8], end: u8) -> (&[u8], Option<&[u8]>)
-    ensures first { result.0.now ≡ before end s.now }
-    ensures rest { option_map (λ x. x.now) result.1 ≡ after end s.now }
-    ensures less { IfSome result.1 (λ t. length t.now < length s.now) }
-{
-    for (i, b) in s.iter().enumerate() {
-        if *b == end {
-            return (&s[0..i], Some(&s[i + 1..]));
-        }
+    match s.iter().position(|b| *b == end) {
+        Some(at) => (&s[..at], Some(&s[at + 1..])),
+        None => (s, None),
     }
-    (s, None)
 }
