@@ -1,8 +1,7 @@
 -- Words, one cut at a time.
-use Rattle.std.proofs.Common.{◌≡◌, ℕ, zero, suc, ◌+◌, ◌-◌, ◌<◌, ◌≢◌, Bool, true, false, cond, eqb, List, [], ◌∷◌, ◌++◌, map, length, get_or, take, drop, Some, None, Option, sym, refl, ap, ◌∙◌, append_assoc, add-one, arith, eq-eqb, ne_eqb}
+use Rattle.std.proofs.Common.{◌≡◌, ℕ, zero, suc, ◌+◌, ◌-◌, ◌<◌, ◌≢◌, Bool, true, false, cond, eqb, List, [], ◌∷◌, length, get_or, take, drop, Some, None, Option, sym, refl, ap, ◌∙◌, add-one, arith, eq-eqb, ne_eqb}
 use Rattle.std.proofs.lemmas.List.{take_rest}
-use Rattle.trace.specs.declared.word.Word.{Word}
-use Rattle.trace.specs.Words.{word_of, words}
+use Rattle.std.specs.List.{slice_split, onto_first}
 use Rattle.trace.specs.Pieces.{before, after, on_first, pieces}
 
 abbrev pub pieces_after : ℕ → Option (List ℕ) → List (List ℕ)
@@ -40,11 +39,10 @@ pub after_none : (b : ℕ) (s : List ℕ) → ((k : ℕ) → k < length s → ge
 after_none b [] none = refl
 after_none b (c ∷ cs) none = rw (ne_eqb c b (none 0 (omega arith))) (after_none b cs (λ k h. none (suc k) (omega arith)))
 
--- the words of rest go on after those of done
-pub one_more : {total done' : List Word} {w : Word} (done : List Word) (rest more : List ℕ) → done ++ map word_of (words rest) ≡ total → w ≡ word_of (before 32 rest) → after 32 rest ≡ Some more → done' ≡ done ++ (w ∷ []) → done' ++ map word_of (words more) ≡ total
-one_more {total} {done'} {w} done rest more inv ew ea ed =
-    ap (λ l. l ++ map word_of (words more)) ed ∙ append_assoc done (w ∷ []) (map word_of (words more)) ∙ ap (λ l. done ++ l) (ap (λ v. v ∷ map word_of (words more)) ew ∙ sym (ap (map word_of) (pieces_cut 32 rest ∙ ap (λ o. before 32 rest ∷ pieces_after 32 o) ea))) ∙ inv
-
-pub no_more : {total done' : List Word} {w : Word} (done : List Word) (rest : List ℕ) → done ++ map word_of (words rest) ≡ total → w ≡ word_of (before 32 rest) → after 32 rest ≡ None → done' ≡ done ++ (w ∷ []) → done' ≡ total
-no_more {total} {done'} {w} done rest inv ew ea ed =
-    ed ∙ ap (λ l. done ++ l) (ap (λ v. v ∷ []) ew ∙ sym (ap (map word_of) (pieces_cut 32 rest ∙ ap (λ o. before 32 rest ∷ pieces_after 32 o) ea))) ∙ inv
+pub pieces_split : (b : ℕ) (s : List ℕ) → pieces b s ≡ slice_split (λ c. eqb c b) s
+pieces_split b [] = refl
+pieces_split b (c ∷ cs) = rw (pieces_split b cs) (same (slice_split (λ c. eqb c b) cs))
+  where
+    same : (ps : List (List ℕ)) → cond (eqb c b) ([] ∷ ps) (on_first c ps) ≡ cond (eqb c b) ([] ∷ ps) (onto_first c ps)
+    same [] = refl
+    same (p ∷ ps) = refl

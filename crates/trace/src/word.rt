@@ -4,7 +4,6 @@ ghost use Rattle.trace.specs.Words.{word_of, words, in_field, is_number, kind_of
 
 use crate::fault::LineFault;
 use crate::number::{CAP, read_number};
-use crate::text::cut;
 use std::alloc::{AllocError, Global};
 
 // The kinds of memory that a trace may ask for.
@@ -75,16 +74,7 @@ pub(crate) fn read_word(word: &[u8]) -> Word
 pub(crate) fn read_words(alloc: Global, s: &[u8]) -> Result<Vec<Word>, AllocError>
     ensures { IfOk result (λ v. v.items ≡ map word_of (words s.now)) }
 {
-    let mut found = Vec::new(alloc);
-    let mut rest = s;
-    loop {
-        let (word, after) = cut(rest, b' ');
-        found.push(read_word(word))?;
-        match after {
-            Some(more) => rest = more,
-            None => return Ok(found),
-        }
-    }
+    s.split(|b| *b == b' ').map(read_word).collect(alloc)
 }
 
 fn is_number(word: Word) -> bool

@@ -1,17 +1,14 @@
-use Rattle.std.proofs.Common.{vec_items, sym, ap, ◌∙◌}
-use Rattle.std.specs.Option.{option_map}
+use Rattle.std.proofs.Common.{◌≡◌, List, IfOk, vec_items, eqb, map, sym, ap, subst, rules, tests}
+use Rattle.std.proofs.lemmas.Iterator.{YieldsList-from_map, items_from_collect}
+use Rattle.std.proofs.lemmas.Iterator.Splits.{YieldsList-from_slice_split}
+use Rattle.trace.specs.declared.word.Word.{Word}
 use Rattle.trace.specs.Words.{word_of}
-use Rattle.trace.proofs.Cuts.{one_more, no_more}
+use Rattle.trace.proofs.Cuts.{pieces_split}
 use Rattle.trace.proofs.word.read_words.Goals as goal
 
-pub loop-found-preserved : goal.loop-found-preserved
-loop-found-preserved c =
-    one_more (vec_items c.loop-found.found) c.loop-found.rest.now c.in-Some.more.now c.loop-found.invariant (c.read_word.ensures ∙ ap word_of c.cut.ensures.first)
-    (sym c.cut.ensures.rest ∙ ap (option_map (λ x. x.now)) c.in-Some.is)
-    c.in_ok-push.ensures.items
-
-pub returns-in-None : goal.returns-in-None
-returns-in-None c =
-    no_more (vec_items c.loop-found.found) c.loop-found.rest.now c.loop-found.invariant (c.read_word.ensures ∙ ap word_of c.cut.ensures.first)
-    (sym c.cut.ensures.rest ∙ ap (option_map (λ x. x.now)) c.in-None.is)
-    c.in_ok-push.ensures.items
+pub returns : goal.returns
+returns c =
+    let s = c.args.s.now in
+    let parts = YieldsList-from_slice_split _ (λ b. eqb b 32) s (cc) (cc) (cc) (λ x b q k. search (rules, tests)) in
+    let words = items_from_collect _ c.collect.ensures.ran (YieldsList-from_map _ word_of parts c.map.ensures.closure (λ x r q k. search rules)) in
+    subst (λ (ws : List Word). IfOk c.collect.result (λ v. vec_items v ≡ ws)) (ap (map word_of) (sym (pieces_split 32 s))) words
