@@ -1,5 +1,6 @@
 -- Fields filled from the left.
-use Rattle.std.proofs.Common.{◌≡◌, ℕ, zero, suc, ◌+◌, ◌-◌, ◌<◌, ◌≤◌, Bool, true, false, ◌&&◌, ◌≢◌, List, [], ◌∷◌, length, get_or, take, drop, set, Ok, Err, Result, sym, refl, ap, ◌∙◌, arith, length-set, take_all, get_or-set_other, get_or-set_same, below_more, eq-eqb, ne_eqb}
+use Rattle.std.proofs.Common.{◌≡◌, ℕ, zero, suc, ◌+◌, ◌<◌, ◌≤◌, true, false, ◌&&◌, ◌≢◌, List, [], ◌∷◌, length, get_or, set, Ok, Err, Result, sym, refl, ap, ◌∙◌, arith, length-set, get_or-set_other, get_or-set_same, below_more, eq-eqb, ne_eqb}
+use Rattle.std.specs.List.{list_all}
 use Rattle.trace.specs.declared.fault.LineFault.{LineFault}
 use Rattle.trace.specs.declared.word.Field.{Field}
 use Rattle.trace.specs.declared.word.Word.{Word}
@@ -20,13 +21,9 @@ pub record Upto (ls : List Field) (ws : List Word) (ns : List ℕ) (i : ℕ) : T
   pub fit : (k : ℕ) → k < i → field ls ws k ≡ Ok (get_or ns k 0)
   pub low : (k : ℕ) → k < i → get_or ns k 0 ≤ (get_or ls k none).high
 
-pub all_none : (ws : List Word) → length ws ≡ 0 → true ≡ all_numbers ws
-all_none [] e = refl
-all_none (w ∷ ws) e = absurd (omega arith)
-
-pub all_more : (ws : List Word) {r : Bool} → r ≡ all_numbers (take (length ws - 1) (drop 1 ws)) → 0 < length ws → is_number (get_or ws 0 Other) ≡ true → r ≡ all_numbers ws
-all_more [] e some is = absurd (omega arith)
-all_more (w ∷ ws) e some is = e ∙ ap all_numbers (take_all (length (w ∷ ws) - 1) ws (omega arith)) ∙ sym (ap (λ b. b && all_numbers ws) is)
+pub all_by_list : (ws : List Word) → list_all is_number ws ≡ all_numbers ws
+all_by_list [] = refl
+all_by_list (w ∷ ws) = ap (λ b. is_number w && b) (all_by_list ws)
 
 pub in_fields_ok : (ls : List Field) (ws : List Word) (ns : List ℕ) → length ws ≡ length ls → length ns ≡ length ls → ((k : ℕ) → k < length ls → field ls ws k ≡ Ok (get_or ns k 0)) → in_fields ls ws ≡ Ok ns
 in_fields_ok [] ws [] ew en fit = refl

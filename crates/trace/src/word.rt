@@ -77,22 +77,18 @@ pub(crate) fn read_words(alloc: Global, s: &[u8]) -> Result<Vec<Word>, AllocErro
     s.split(|b| *b == b' ').map(read_word).collect(alloc)
 }
 
-fn is_number(word: Word) -> bool
-    ensures { result ≡ is_number word }
-{
-    match word {
-        Word::Number(_) | Word::Large => true,
-        Word::Kind(_) | Word::Other => false,
+impl Word {
+    fn is_number(&self) -> bool
+        ensures { result ≡ is_number self.now }
+    {
+        matches!(self, Word::Number(_) | Word::Large)
     }
 }
 
 pub(crate) fn all_numbers(words: &[Word]) -> bool
     ensures { result ≡ all_numbers words.now }
 {
-    match words {
-        [] => true,
-        [word, rest @ ..] => is_number(*word) && all_numbers(rest),
-    }
+    words.iter().all(|word| word.is_number())
 }
 
 impl Field {
