@@ -1,5 +1,4 @@
 pub mod Boards
-pub mod Caps
 pub mod Cuts
 pub mod Decimals
 pub mod Fields

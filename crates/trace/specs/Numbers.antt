@@ -1,5 +1,7 @@
 -- Numbers in decimal with no leading zero.
-use Rattle.std.specs.Prelude.{◌≡◌, ℕ, ◌+◌, ◌-◌, ◌*◌, ◌^◌, ◌<◌, min, Bool, cond, ◌&&◌, List, [], ◌∷◌, Some, None, decimal, Option, ◌==◌, nat_le}
+use Rattle.std.specs.Prelude.{◌≡◌, ℕ, ◌+◌, ◌-◌, ◌*◌, ◌^◌, ◌<◌, Bool, cond, ◌&&◌, List, [], ◌∷◌, Some, None, Ok, Err, decimal, Option, Result, ◌==◌, nat_le, nat_lt}
+use Rattle.trace.specs.declared.number.NumberFault.{NumberFault}
+use Rattle.trace.specs.declared.number.NumberFault.TheVariants.{NotANumber, TooLarge}
 
 -- The law of numbers: a text is read as n, below 2 ^ 64, just where it is n in decimal.
 pub record ReadsDecimal (s : List ℕ) (r : Option ℕ) : Type 0 where
@@ -24,6 +26,6 @@ number [] = None
 number (c ∷ cs) = cond (c == 48) (after_zero cs) (digits_on 0 (c ∷ cs))
 
 -- What the code keeps of a number: no field is as large as 2 ^ 64.
-abbrev pub capped : Option ℕ → Option ℕ
-capped None = None
-capped (Some n) = Some (min n (2 ^ 64))
+abbrev pub read_as : Option ℕ → Result ℕ NumberFault
+read_as None = Err NotANumber
+read_as (Some n) = cond (nat_lt n (2 ^ 64)) (Ok n) (Err TooLarge)

@@ -1,56 +1,42 @@
 // Numbers: decimal, with no leading zero.
-ghost use Rattle.std.specs.Prelude.{◌≡◌, ◌+◌, ◌-◌, ◌*◌, ◌^◌, ◌≤◌, min, true};
-ghost use Rattle.trace.specs.Numbers.{ReadsDecimal, capped, digits_on, is_digit, number};
+ghost use Rattle.std.specs.Prelude.{◌≡◌, ◌<◌, length};
+ghost use Rattle.std.specs.Result.{result_ok};
+ghost use Rattle.trace.specs.Numbers.{ReadsDecimal, digits_on, number, read_as};
 
-// What a number above every field is read as.
-pub(crate) const CAP: u128 = 18446744073709551616;
-
-fn is_digit(byte: u8) -> bool
-    ensures { result ≡ is_digit byte }
-{
-    byte >= b'0' && byte <= b'9'
+// Why a text is read as none of the numbers that a field may take.
+#[derive(Clone, Copy, PartialEq, Eq, Debug)]
+pub(crate) enum NumberFault {
+    NotANumber,
+    TooLarge,
 }
 
-// One digit more, at most `CAP`.
-fn with_digit(n: u128, digit: u8) -> u128
-    requires small { n ≤ 2 ^ 64 }
-    requires digit { is_digit digit ≡ true }
-    ensures { result ≡ min (n * 10 + (digit - 48)) (2 ^ 64) }
-{
-    (n * 10 + (digit - b'0') as u128).min(CAP)
-}
-
-// The digits of `s` after `n`, at most `CAP`; none where a byte is no digit.
-fn read_digits(n: u128, s: &[u8]) -> Option<u128>
-    requires { n ≤ 2 ^ 64 }
-    ensures { result ≡ capped (digits_on n s.now) }
-{
-    match s {
-        [] => Some(n),
-        [digit, rest @ ..] => {
-            if !is_digit(*digit) {
-                return None;
-            }
-            read_digits(with_digit(n, *digit), rest)
-        }
-    }
-}
-
-// The number that `s` writes, at most `CAP`.
-pub(crate) fn read_number(s: &[u8]) -> Option<u128>
-    ensures value { result ≡ capped (number s.now) }
-    ensures decimal { ReadsDecimal s.now result }
+// The number that `s` writes.
+pub(crate) fn read_number(s: &[u8]) -> Result<u64, NumberFault>
+    ensures value { result ≡ read_as (number s.now) }
+    ensures decimal { ReadsDecimal s.now (result_ok result) }
 {
     without_leading_zero(s)
 }
 
-fn without_leading_zero(s: &[u8]) -> Option<u128>
-    ensures { result ≡ capped (number s.now) }
+fn without_leading_zero(s: &[u8]) -> Result<u64, NumberFault>
+    ensures { result ≡ read_as (number s.now) }
 {
     match s {
-        [] => None,
-        [b'0'] => Some(0),
-        [b'0', ..] => None,
-        _ => read_digits(0, s),
+        [] => Err(NumberFault::NotANumber),
+        [b'0', _, ..] => Err(NumberFault::NotANumber),
+        _ => read_digits(s),
     }
+}
+
+fn read_digits(s: &[u8]) -> Result<u64, NumberFault>
+    requires { 0 < length s.now }
+    ensures { result ≡ read_as (digits_on 0 s.now) }
+{
+    let Ok(text) = str::from_utf8(s) else {
+        return Err(NumberFault::NotANumber);
+    };
+    if !s.iter().all(u8::is_ascii_digit) {
+        return Err(NumberFault::NotANumber);
+    }
+    u64::from_str_radix(text, 10).map_err(|_| NumberFault::TooLarge)
 }

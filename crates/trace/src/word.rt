@@ -3,7 +3,7 @@ ghost use Rattle.std.specs.Prelude.{◌≡◌, ℕ, ◌<◌, ◌≤◌, map, len
 ghost use Rattle.trace.specs.Words.{word_of, words, in_field, is_number, kind_of, all_numbers, fields_of};
 
 use crate::fault::LineFault;
-use crate::number::{CAP, read_number};
+use crate::number::{NumberFault, read_number};
 use std::alloc::{AllocError, Global};
 
 // The kinds of memory that a trace may ask for.
@@ -59,14 +59,9 @@ pub(crate) fn read_word(word: &[u8]) -> Word
         return Word::Kind(kind);
     }
     match read_number(word) {
-        None => Word::Other,
-        Some(n) => {
-            if n < CAP {
-                Word::Number(n as u64)
-            } else {
-                Word::Large
-            }
-        }
+        Ok(n) => Word::Number(n),
+        Err(NumberFault::TooLarge) => Word::Large,
+        Err(NumberFault::NotANumber) => Word::Other,
     }
 }
 
