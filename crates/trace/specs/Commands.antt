@@ -76,6 +76,9 @@ abbrev pub boards_of : List Word → Result (List ℕ) LineFault
 boards_of ws = cond (all_numbers ws) (each_in board ws) (Err fault.NotANumber)
 
 -- L and R: board and line.
+abbrev pub place_of : List Word → Result (ℕ × ℕ) LineFault
+place_of ws = then (fields_of (board ∷ line ∷ []) ws) (λ ns. Ok (slice_index ns 0, slice_index ns 1))
+
 abbrev pub load_of : List Word → Result Order LineFault
 load_of ws = then (fields_of (board ∷ line ∷ []) ws) (λ ns. Ok (load (slice_index ns 0) (slice_index ns 1)))
 

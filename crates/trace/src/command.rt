@@ -2,7 +2,7 @@
 ghost use Rattle.std.specs.Prelude.{◌≡◌, length, vec_items, nat_le};
 ghost use Rattle.std.specs.Option as options;
 ghost use Rattle.std.specs.Result.{result_map_both};
-ghost use Rattle.trace.specs.Commands.{apart, boards_of, call_order, called, collect_of, fabric_letter, fabric_of, fabric_order, guard_of, list_order, load_of, meaning, parts_of, replace_of, set_up, slots_of, store_of};
+ghost use Rattle.trace.specs.Commands.{apart, boards_of, call_order, called, collect_of, fabric_letter, fabric_of, fabric_order, guard_of, list_order, meaning, parts_of, place_of, set_up, slots_of, store_of};
 ghost use Rattle.trace.specs.Faults.{Told};
 
 use crate::fault::{LineFault, TraceFault};
@@ -85,14 +85,12 @@ fn fabric(words: &[Word]) -> Result<FabricLine, LineFault>
     })
 }
 
-fn load(words: &[Word]) -> Result<Command, LineFault>
-    ensures { result_map_both meaning (λ e. e) result ≡ load_of words.now }
+// The board and the line of a load and of a replacement.
+fn place(words: &[Word]) -> Result<(u8, u8), LineFault>
+    ensures { result ≡ place_of words.now }
 {
     let [board, line] = read_fields(words, [BOARD, LINE])?;
-    Ok(Command::Load {
-        board: board as u8,
-        line: line as u8,
-    })
+    Ok((board as u8, line as u8))
 }
 
 fn store(words: &[Word]) -> Result<Command, LineFault>
@@ -104,16 +102,6 @@ fn store(words: &[Word]) -> Result<Command, LineFault>
         line: line as u8,
         word,
         key: key as u16,
-    })
-}
-
-fn replace(words: &[Word]) -> Result<Command, LineFault>
-    ensures { result_map_both meaning (λ e. e) result ≡ replace_of words.now }
-{
-    let [board, line] = read_fields(words, [BOARD, LINE])?;
-    Ok(Command::Replace {
-        board: board as u8,
-        line: line as u8,
     })
 }
 
@@ -201,9 +189,9 @@ fn command_of(letter: u8, words: &[Word]) -> Result<Command, LineFault>
     ensures { result_map_both meaning (λ e. e) result ≡ called letter words.now }
 {
     match letter {
-        b'L' => load(words),
+        b'L' => place(words).map(|(board, line)| Command::Load { board, line }),
         b'S' => store(words),
-        b'R' => replace(words),
+        b'R' => place(words).map(|(board, line)| Command::Replace { board, line }),
         b'K' => guard(words),
         b'C' => collect(words),
         b'W' => slots(words),

@@ -93,13 +93,8 @@ impl Field {
         ensures bound { IfOk result (λ n. n ≤ self.high) }
     {
         match word {
-            Word::Number(n) => {
-                if n < self.low || n > self.high {
-                    return Err(LineFault::OutOfField);
-                }
-                Ok(n)
-            }
-            Word::Large => Err(LineFault::OutOfField),
+            Word::Number(n) if self.low <= n && n <= self.high => Ok(n),
+            Word::Number(_) | Word::Large => Err(LineFault::OutOfField),
             Word::Kind(_) | Word::Other => Err(LineFault::NotANumber),
         }
     }
@@ -119,9 +114,10 @@ pub(crate) fn read_fields<const N: usize>(
     if !all_numbers(words) {
         return Err(LineFault::NotANumber);
     }
+    // By index: what `iter_mut` wrote is not known once its loan is over.
     let mut numbers = [0; N];
-    for i in 0..N {
-        numbers[i] = fields[i].take(words[i])?;
+    for (i, field) in fields.iter().enumerate() {
+        numbers[i] = field.take(words[i])?;
     }
     Ok(numbers)
 }
