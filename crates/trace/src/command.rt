@@ -40,7 +40,7 @@ pub enum Command {
     },
 }
 
-// A line taken apart.
+// A line taken apart. The letter stays a byte: an unknown one is no fault where a slot list may stand, and an enum of letters would be matched twice.
 #[derive(Drop)]
 pub(crate) struct Parts {
     letter: u8,
@@ -176,26 +176,29 @@ fn take_apart(alloc: Global, line: &[u8]) -> Result<Parts, TraceFault>
     }
 }
 
-fn fabric_of(letter: u8, words: &[Word]) -> Result<FabricLine, LineFault>
-    ensures { result_map_both set_up (λ e. e) result ≡ fabric_letter letter words.now }
-{
-    match letter {
-        b'F' => fabric(words),
-        _ => Err(LineFault::Letter),
+impl Parts {
+    fn fabric(&self) -> Result<FabricLine, LineFault>
+        ensures { result_map_both set_up (λ e. e) result ≡ fabric_letter self.now.letter (vec_items self.now.words) }
+    {
+        match self.letter {
+            b'F' => fabric(&self.words),
+            _ => Err(LineFault::Letter),
+        }
     }
-}
 
-fn command_of(letter: u8, words: &[Word]) -> Result<Command, LineFault>
-    ensures { result_map_both meaning (λ e. e) result ≡ called letter words.now }
-{
-    match letter {
-        b'L' => place(words).map(|(board, line)| Command::Load { board, line }),
-        b'S' => store(words),
-        b'R' => place(words).map(|(board, line)| Command::Replace { board, line }),
-        b'K' => guard(words),
-        b'C' => collect(words),
-        b'W' => slots(words),
-        _ => Err(LineFault::Letter),
+    fn command(&self) -> Result<Command, LineFault>
+        ensures { result_map_both meaning (λ e. e) result ≡ called self.now.letter (vec_items self.now.words) }
+    {
+        let words = &self.words;
+        match self.letter {
+            b'L' => place(words).map(|(board, line)| Command::Load { board, line }),
+            b'S' => store(words),
+            b'R' => place(words).map(|(board, line)| Command::Replace { board, line }),
+            b'K' => guard(words),
+            b'C' => collect(words),
+            b'W' => slots(words),
+            _ => Err(LineFault::Letter),
+        }
     }
 }
 
@@ -203,8 +206,7 @@ fn command_of(letter: u8, words: &[Word]) -> Result<Command, LineFault>
 pub fn read_fabric(alloc: Global, line: &[u8]) -> Result<FabricLine, TraceFault>
     ensures { Told set_up result (fabric_order line.now) }
 {
-    let parts = take_apart(alloc, line)?;
-    Ok(fabric_of(parts.letter, parts.words.as_slice())?)
+    Ok(take_apart(alloc, line)?.fabric()?)
 }
 
 // The second line: the boards of a slot list, or none where it is no slot list.
@@ -215,14 +217,12 @@ pub fn read_list(alloc: Global, line: &[u8]) -> Result<Option<Vec<u8>>, TraceFau
     if parts.letter != b'O' {
         return Ok(None);
     }
-    let list = boards(alloc, parts.words.as_slice())?;
-    Ok(Some(list))
+    Ok(Some(boards(alloc, &parts.words)?))
 }
 
 // Any later line.
 pub fn read_command(alloc: Global, line: &[u8]) -> Result<Command, TraceFault>
     ensures { Told meaning result (call_order line.now) }
 {
-    let parts = take_apart(alloc, line)?;
-    Ok(command_of(parts.letter, parts.words.as_slice())?)
+    Ok(take_apart(alloc, line)?.command()?)
 }
