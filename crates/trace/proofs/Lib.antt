@@ -2,4 +2,3 @@ pub mod Boards
 pub mod Cuts
 pub mod Decimals
 pub mod Fields
-pub mod Parsed

@@ -147,17 +147,12 @@ fn boards(alloc: Global, words: &[Word]) -> Result<Vec<u8>, TraceFault>
     Ok(list)
 }
 
-fn in_length(line: &[u8]) -> bool
-    ensures { result ≡ nat_le (length line.now) 200 }
-{
-    line.len() <= MAX_LINE
-}
-
 // A line, without its line end, as its letter and its words.
+#[tactic(auto, unfolding(crate::specs::Commands::apart))]
 fn take_apart(alloc: Global, line: &[u8]) -> Result<Parts, TraceFault>
     ensures { Told parts_of result (apart line.now) }
 {
-    if !in_length(line) {
+    if line.len() > MAX_LINE {
         return Err(TraceFault::Line(LineFault::NoLineEnd));
     }
     match line {
