@@ -1,4 +1,2 @@
-pub mod Boards
 pub mod Cuts
 pub mod Decimals
-pub mod Fields

@@ -101,6 +101,7 @@ impl Field {
 }
 
 // As many numbers as there are fields, each in its own.
+#[tactic(auto, unfolding(crate::specs::Words::fields_of))]
 pub(crate) fn read_fields<const N: usize>(
     words: &[Word],
     fields: [Field; N],
