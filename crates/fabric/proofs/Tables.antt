@@ -1,13 +1,15 @@
 -- The tables' meaning after one change.
-use Rattle.std.proofs.Common.{◌≡◌, ℕ, ◌<◌, Bool, true, false, not, List, [], length, get_or, set, is_some, Some, None, Option, refl, ap, ◌∙◌}
+use Rattle.std.proofs.Common.{◌≡◌, ℕ, ◌<◌, true, not, List, [], length, get_or, set, is_some, Some, None, Option, refl, ap, ◌∙◌}
 use Rattle.std.proofs.lemmas.List.{get_or-map}
 use Rattle.rules.specs.Calls.{is_free}
 use Rattle.rules.specs.Boards.{blank, change, stored}
 use Rattle.fabric.specs.declared.board.Board.{Board}
 use Rattle.fabric.specs.declared.board.LineRecord.{LineRecord}
 use Rattle.fabric.specs.declared.board.Request.{Request}
+use Rattle.fabric.specs.declared.board.Stage.{Stage}
+use Rattle.fabric.specs.declared.board.Stage.TheVariants.{Posted, Sent, Served}
 use Rattle.fabric.specs.declared.queue.Queue.{Queue}
-use Rattle.fabric.specs.Boards.{board_of, boards_of, no_line, place_of, rows_of, stage, states_of, words_of}
+use Rattle.fabric.specs.Boards.{board_of, boards_of, no_line, place_at, place_of, rows_of, states_of, words_of}
 use Rattle.fabric.specs.Queues.{row}
 use Rattle.fabric.specs.Records.{recorded}
 use Rattle.fabric.proofs.Arrays.{at_set, change_own, seen_set}
@@ -44,12 +46,11 @@ unfolding rows_of
 row_at_lem qs l d h = get_or-map row qs l d [] h
 
 -- A board has a request just where its place is not free.
-staged : (s t : Bool) (q : Request) → true ≡ not (is_free (stage s t q))
-staged true true q = refl
-staged true false q = refl
-staged false true q = refl
-staged false false q = refl
+staged : (s : Stage) (q : Request) → true ≡ not (is_free (place_at s q))
+staged Posted q = refl
+staged Sent q = refl
+staged (Served r) q = refl
 
 pub request_place : (o : Option Request) → is_some o ≡ not (is_free (place_of o))
 request_place None = refl
-request_place (Some q) = staged q.sent q.served q
+request_place (Some q) = staged q.stage q

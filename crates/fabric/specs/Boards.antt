@@ -1,11 +1,13 @@
 -- What a board's struct stands for.
-use Rattle.std.specs.Prelude.{ℕ, Bool, true, false, List, [], map, get_or, Some, None, Option, slice_index_or}
+use Rattle.std.specs.Prelude.{ℕ, List, [], map, get_or, Some, None, Option, slice_index_or}
 use Rattle.copystate.specs.declared.states.State.{State}
 use Rattle.copystate.specs.declared.states.State.TheVariants.{I}
 use Rattle.rules.specs.Boards as rules
 use Rattle.rules.specs.Boards.{Place, blank, free, posted, sent, served}
 use Rattle.fabric.specs.declared.board.LineRecord.{LineRecord}
 use Rattle.fabric.specs.declared.board.Request.{Request}
+use Rattle.fabric.specs.declared.board.Stage.{Stage}
+use Rattle.fabric.specs.declared.board.Stage.TheVariants.{Posted, Sent, Served}
 use Rattle.fabric.specs.declared.board.Board.{Board}
 use Rattle.fabric.specs.declared.queue.Queue.{Queue}
 use Rattle.fabric.specs.Queues.{row}
@@ -19,15 +21,15 @@ states_of rs l = (get_or rs l no_line).state
 unfoldable pub words_of : List LineRecord → ℕ → ℕ
 words_of rs l = (get_or rs l no_line).word
 
--- The place of a request by its marks.
-abbrev pub stage : (sent served : Bool) → Request → Place
-stage s true q = served q.line q.kind q.result q.waited
-stage true false q = sent q.line q.kind q.waited
-stage false false q = posted q.line q.kind q.waited
+-- The place of a request by its stage.
+abbrev pub place_at : Stage → Request → Place
+place_at Posted q = posted q.line q.kind q.waited
+place_at Sent q = sent q.line q.kind q.waited
+place_at (Served r) q = served q.line q.kind r q.waited
 
 abbrev pub place_of : Option Request → Place
 place_of None = free
-place_of (Some q) = stage q.sent q.served q
+place_of (Some q) = place_at q.stage q
 
 abbrev pub board_of : Board → rules.Board
 board_of x = record { place = place_of x.request; list = row x.write_backs; last = x.last; mark = x.marked; state = states_of x.lines; word = words_of x.lines }

@@ -16,13 +16,20 @@ pub struct LineRecord {
     pub(crate) word: u64,
 }
 
+// How far a request has come.
+#[derive(Clone, Copy, PartialEq, Eq, Debug)]
+pub(crate) enum Stage {
+    Posted,
+    Sent,
+    // With its result.
+    Served(u64),
+}
+
 #[derive(Clone, Copy)]
 pub struct Request {
     pub(crate) kind: Kind,
     pub(crate) line: usize,
-    pub(crate) sent: bool,
-    pub(crate) served: bool,
-    pub(crate) result: u64,
+    pub(crate) stage: Stage,
     pub(crate) waited: u64,
     ghost inside: { line < 64 },
 }

@@ -8,7 +8,7 @@ ghost use Rattle.rules.specs.declared.kind.Kind.TheVariants.{Store};
 ghost use Rattle.fabric.specs.Boards.{board_of};
 ghost use Rattle.fabric.specs.Deeds.{given, gives_first, unmarks};
 
-use crate::board::{Board, Request};
+use crate::board::{Board, Request, Stage};
 use copystate::events::Event;
 use rules::kind::{Kind, LastDeed};
 
@@ -19,6 +19,19 @@ fn result_of(kind: Kind, word: u64) -> u64
     match kind {
         Kind::Load => word,
         Kind::Store(own) => own,
+    }
+}
+
+impl Request {
+    fn at_stage(self, stage: Stage) -> Request
+        ensures { (result.stage ≡ stage) × ((result.kind ≡ self.kind) × ((result.line ≡ self.line) × (result.waited ≡ self.waited))) }
+    {
+        Request {
+            kind: self.kind,
+            line: self.line,
+            stage,
+            waited: self.waited,
+        }
     }
 }
 
@@ -34,9 +47,7 @@ impl Board {
         self.request = Some(Request {
             kind,
             line,
-            sent: false,
-            served: false,
-            result: 0,
+            stage: Stage::Posted,
             waited: 0,
         });
     }
@@ -46,14 +57,7 @@ impl Board {
         ensures { board_of self.new ≡ sends event request.line request.kind request.waited (board_of self.old) }
     {
         self.take(request.line, event);
-        self.request = Some(Request {
-            kind: request.kind,
-            line: request.line,
-            sent: true,
-            served: false,
-            result: 0,
-            waited: request.waited,
-        });
+        self.request = Some(request.at_stage(Stage::Sent));
         self.last = LastDeed::Request;
     }
 
@@ -63,14 +67,7 @@ impl Board {
     {
         let result = result_of(request.kind, word);
         self.lay(request.line, Event::OwnData, result);
-        self.request = Some(Request {
-            kind: request.kind,
-            line: request.line,
-            sent: true,
-            served: true,
-            result,
-            waited: request.waited,
-        });
+        self.request = Some(request.at_stage(Stage::Served(result)));
         self.last = LastDeed::Request;
     }
 
@@ -80,14 +77,7 @@ impl Board {
         ensures { board_of self.new ≡ lifts request.line word request.waited (board_of self.old) }
     {
         self.lay(request.line, Event::OwnUpg, word);
-        self.request = Some(Request {
-            kind: request.kind,
-            line: request.line,
-            sent: true,
-            served: true,
-            result: word,
-            waited: request.waited,
-        });
+        self.request = Some(request.at_stage(Stage::Served(word)));
         self.last = LastDeed::Request;
     }
 
@@ -96,13 +86,11 @@ impl Board {
         ensures { board_of self.new ≡ ages (board_of self.old) }
     {
         if let Some(request) = self.request {
-            if !request.served {
+            if !request.is_served() {
                 self.request = Some(Request {
                     kind: request.kind,
                     line: request.line,
-                    sent: request.sent,
-                    served: false,
-                    result: request.result,
+                    stage: request.stage,
                     waited: request.waited.saturating_add(1),
                 });
             }
@@ -130,10 +118,8 @@ impl Board {
     fn unmark(&mut self, line: usize)
         ensures { board_of self.new ≡ unmarks line (board_of self.old) }
     {
-        if let Some(marked) = self.marked {
-            if marked == line {
-                self.marked = None;
-            }
+        if self.marked == Some(line) {
+            self.marked = None;
         }
     }
 

@@ -3,7 +3,7 @@ ghost use Rattle.std.specs.Prelude.{◌≡◌, Some};
 ghost use Rattle.fabric.specs.Boards.{place_of};
 ghost use Rattle.fabric.specs.Requests.{kind_in, line_in, result_in, sent_in, served_in, waited_in};
 
-use crate::board::Request;
+use crate::board::{Request, Stage};
 use rules::kind::Kind;
 
 impl Request {
@@ -22,23 +22,22 @@ impl Request {
     pub fn is_sent(&self) -> bool
         ensures { result ≡ sent_in (place_of (Some self.now)) }
     {
-        self.is_served() || self.sent
+        !matches!(self.stage, Stage::Posted)
     }
 
     pub fn is_served(&self) -> bool
         ensures { result ≡ served_in (place_of (Some self.now)) }
     {
-        self.served
+        matches!(self.stage, Stage::Served(_))
     }
 
     // The result, once it is served.
     pub fn result(&self) -> Option<u64>
         ensures { result ≡ result_in (place_of (Some self.now)) }
     {
-        if self.is_served() {
-            Some(self.result)
-        } else {
-            None
+        match self.stage {
+            Stage::Posted | Stage::Sent => None,
+            Stage::Served(word) => Some(word),
         }
     }
 

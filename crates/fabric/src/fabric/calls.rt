@@ -94,15 +94,11 @@ impl<S: Schedule, M: LineMemory> Fabric<S, M> {
         if board >= self.schedule.boards() {
             return Err(Refusal::NoBoard);
         }
-        let Some(request) = self.core.board(board).request else {
-            return Err(Refusal::NoRequest);
-        };
-        if !request.served {
-            return Err(Refusal::NotServed);
-        }
+        let request = self.core.board(board).request.ok_or(Refusal::NoRequest)?;
+        let word = request.result().ok_or(Refusal::NotServed)?;
         self.core.free_at(board);
         Ok(Collected {
-            word: request.result,
+            word,
             waited: request.waited,
         })
     }

@@ -1,11 +1,12 @@
 // One slot.
 ghost use Rattle.std.specs.Prelude.{◌≡◌, ◌<◌, ◌≤◌, not};
+ghost use Rattle.rules.specs.Boards.{posted};
 ghost use Rattle.rules.specs.Cells.{board_at, is_empty};
 ghost use Rattle.rules.specs.Slots.{due, first_of, may_upgrade, ready, requests, sends_out, served_too, serves, slot_of, upgrades_to, writes_back};
 ghost use Rattle.rules.specs.declared.kind.Kind.TheVariants.{Store};
 ghost use Rattle.fabric.specs.Views.{view};
 
-use crate::board::Request;
+use crate::board::{Request, Stage};
 use crate::fabric_core::Core;
 use copystate::events::Event;
 use memory::interface::LineMemory;
@@ -19,6 +20,29 @@ pub struct Did {
     pub(crate) line: Option<usize>,
 }
 
+// A request's message: the event of its board, that of the others, and the deed when it is sent alone or served too.
+#[derive(Clone, Copy)]
+struct Message {
+    own: Event,
+    heard: Event,
+    alone: Deed,
+    too: Deed,
+}
+
+const GET_S: Message = Message {
+    own: Event::SendGetS,
+    heard: Event::OtherGetS,
+    alone: Deed::GetS,
+    too: Deed::GetSServed,
+};
+
+const GET_M: Message = Message {
+    own: Event::SendGetM,
+    heard: Event::OtherGetM,
+    alone: Deed::GetM,
+    too: Deed::GetMServed,
+};
+
 const IDLE: Did = Did {
     deed: Deed::Idle,
     line: None,
@@ -26,12 +50,12 @@ const IDLE: Did = Did {
 
 impl<M: LineMemory> Core<M> {
     // The message goes out, all others hear it, and the board joins the row.
-    fn send(&mut self, count: usize, board: usize, request: Request, mine: Event, theirs: Event)
+    fn send(&mut self, count: usize, board: usize, request: Request, message: Message)
         requires { (count ≤ 16) × (board < 16) }
-        ensures { view M.LineMemory self.new ≡ sends_out count board mine theirs request.line request.kind request.waited (view M.LineMemory self.old) }
+        ensures { view M.LineMemory self.new ≡ sends_out count board message.own message.heard request.line request.kind request.waited (view M.LineMemory self.old) }
     {
-        self.snoop_all(count, board, request.line, theirs);
-        self.send_at(board, mine, request);
+        self.snoop_all(count, board, request.line, message.heard);
+        self.send_at(board, message.own, request);
         self.join(request.line, board);
     }
 
@@ -66,15 +90,13 @@ impl<M: LineMemory> Core<M> {
         requires { (count ≤ 16) × (board < 16) }
         ensures { result ≡ ready count board (view M.LineMemory self.now) (board_at (view M.LineMemory self.now) board).place }
     {
-        match self.board(board).request {
-            None => false,
-            Some(request) => {
-                if request.served {
-                    return false;
-                }
-                !request.sent || self.is_due(count, board, request.line)
-            }
-        }
+        self.board(board)
+            .request
+            .is_some_and(|request| match request.stage {
+                Stage::Posted => true,
+                Stage::Sent => self.is_due(count, board, request.line),
+                Stage::Served(_) => false,
+            })
     }
 
     // A request that is sent, and served at once where it is due.
@@ -83,23 +105,26 @@ impl<M: LineMemory> Core<M> {
         count: usize,
         board: usize,
         request: Request,
-        mine: Event,
-        theirs: Event,
-        alone: Deed,
-        too: Deed,
+        message: Message,
     ) -> Did
         requires { (count ≤ 16) × (board < 16) }
-        ensures after { view M.LineMemory self.new ≡ (served_too count board request.line request.kind request.waited alone too (sends_out count board mine theirs request.line request.kind request.waited (view M.LineMemory self.old))).after }
-        ensures deed { result.deed ≡ (served_too count board request.line request.kind request.waited alone too (sends_out count board mine theirs request.line request.kind request.waited (view M.LineMemory self.old))).deed }
-        ensures line { result.line ≡ (served_too count board request.line request.kind request.waited alone too (sends_out count board mine theirs request.line request.kind request.waited (view M.LineMemory self.old))).line }
+        ensures after { view M.LineMemory self.new ≡ (served_too count board request.line request.kind request.waited message.alone message.too (sends_out count board message.own message.heard request.line request.kind request.waited (view M.LineMemory self.old))).after }
+        ensures deed { result.deed ≡ (served_too count board request.line request.kind request.waited message.alone message.too (sends_out count board message.own message.heard request.line request.kind request.waited (view M.LineMemory self.old))).deed }
+        ensures line { result.line ≡ (served_too count board request.line request.kind request.waited message.alone message.too (sends_out count board message.own message.heard request.line request.kind request.waited (view M.LineMemory self.old))).line }
     {
-        self.send(count, board, request, mine, theirs);
+        self.send(count, board, request, message);
         let line = Some(request.line);
         if self.is_due(count, board, request.line) {
             self.serve(board, request);
-            return Did { deed: too, line };
+            return Did {
+                deed: message.too,
+                line,
+            };
         }
-        Did { deed: alone, line }
+        Did {
+            deed: message.alone,
+            line,
+        }
     }
 
     // A store goes as an upgrade from SMw where no board waits.
@@ -108,6 +133,28 @@ impl<M: LineMemory> Core<M> {
         ensures { result ≡ may_upgrade board line (view M.LineMemory self.now) }
     {
         self.board(board).is_ready_to_upgrade(line) && self.is_row_empty(line)
+    }
+
+    // A posted request goes out.
+    fn issue(&mut self, count: usize, board: usize, request: Request) -> Did
+        requires { (count ≤ 16) × (board < 16) }
+        ensures after { view M.LineMemory self.new ≡ (requests count board (view M.LineMemory self.old) (posted request.line request.kind request.waited)).after }
+        ensures deed { result.deed ≡ (requests count board (view M.LineMemory self.old) (posted request.line request.kind request.waited)).deed }
+        ensures line { result.line ≡ (requests count board (view M.LineMemory self.old) (posted request.line request.kind request.waited)).line }
+    {
+        match request.kind {
+            Kind::Load => self.send_and_serve(count, board, request, GET_S),
+            Kind::Store(word) => {
+                if self.may_upgrade(board, request.line) {
+                    self.upgrade(count, board, request, word);
+                    return Did {
+                        deed: Deed::Upg,
+                        line: Some(request.line),
+                    };
+                }
+                self.send_and_serve(count, board, request, GET_M)
+            }
+        }
     }
 
     fn request(&mut self, count: usize, board: usize) -> Did
@@ -119,44 +166,16 @@ impl<M: LineMemory> Core<M> {
         let Some(request) = self.board(board).request else {
             return IDLE;
         };
-        if request.served {
-            return IDLE;
-        }
-        if request.sent {
-            self.serve(board, request);
-            return Did {
-                deed: Deed::Data,
-                line: Some(request.line),
-            };
-        }
-        match request.kind {
-            Kind::Load => self.send_and_serve(
-                count,
-                board,
-                request,
-                Event::SendGetS,
-                Event::OtherGetS,
-                Deed::GetS,
-                Deed::GetSServed,
-            ),
-            Kind::Store(word) => {
-                if self.may_upgrade(board, request.line) {
-                    self.upgrade(count, board, request, word);
-                    return Did {
-                        deed: Deed::Upg,
-                        line: Some(request.line),
-                    };
+        match request.stage {
+            Stage::Posted => self.issue(count, board, request),
+            Stage::Sent => {
+                self.serve(board, request);
+                Did {
+                    deed: Deed::Data,
+                    line: Some(request.line),
                 }
-                self.send_and_serve(
-                    count,
-                    board,
-                    request,
-                    Event::SendGetM,
-                    Event::OtherGetM,
-                    Deed::GetM,
-                    Deed::GetMServed,
-                )
             }
+            Stage::Served(_) => IDLE,
         }
     }
 
