@@ -9,10 +9,11 @@ use Rattle.rules.specs.Calls.{empty}
 use Rattle.rules.specs.declared.kind.LastDeed.TheVariants.{WriteBack}
 use Rattle.fabric.specs.declared.board.Board.{Board}
 use Rattle.fabric.specs.declared.board.LineRecord.{LineRecord}
+use Rattle.fabric.specs.declared.fabric_core.Line.{Line}
 use Rattle.fabric.specs.declared.queue.Queue.{Queue}
-use Rattle.fabric.specs.Boards.{board_of, boards_of, no_line, rows_of, states_of, words_of}
+use Rattle.fabric.specs.Boards.{board_of, boards_of, keys_of, no_line, rows_of, states_of, words_of}
 use Rattle.fabric.specs.Queues.{row}
-use Rattle.fabric.specs.Views.{keys_of, view}
+use Rattle.fabric.specs.Views.{view}
 
 same_all : {A : Type 0} (n : ℕ) (x : A) (k : ℕ) → get_or (replicate n x) k x ≡ x
 same_all zero x k = refl
@@ -39,12 +40,12 @@ blank_board : (q : Queue) → row q ≡ [] → board_of (fresh_board q) ≡ blan
 blank_board q e i = record { place = free; list = e i; last = WriteBack; mark = None; state = no_states i; word = no_words i }
 
 pub new_view : {M : Type 0} (m : memory.Ghosts M) (x : M) (q : Queue) → row q ≡ []
-    → view m record { boards = replicate 16 (fresh_board q); rows = replicate 64 q; keys = replicate 64 0; memory = x } ≡ empty (m.words x) (m.size x)
+    → view m record { boards = replicate 16 (fresh_board q); lines = replicate 64 record { row = q; key = 0 }; memory = x } ≡ empty (m.words x) (m.size x)
 unfolding view boards_of rows_of keys_of
 new_view m x q e i = record {
   boards = λ b. seen_all board_of 16 (fresh_board q) blank (blank_board q e) b i;
-  rows = λ l. seen_all row 64 q [] e l i;
+  rows = λ l. seen_all (λ (y : Line). row y.row) 64 record { row = q; key = 0 } [] e l i;
   words = m.words x;
-  keys = λ l. same_all 64 0 l i;
+  keys = λ l. seen_all (λ (y : Line). y.key) 64 record { row = q; key = 0 } 0 refl l i;
   size = m.size x;
 }

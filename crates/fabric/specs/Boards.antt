@@ -9,7 +9,7 @@ use Rattle.fabric.specs.declared.board.Request.{Request}
 use Rattle.fabric.specs.declared.board.Stage.{Stage}
 use Rattle.fabric.specs.declared.board.Stage.TheVariants.{Posted, Sent, Served}
 use Rattle.fabric.specs.declared.board.Board.{Board}
-use Rattle.fabric.specs.declared.queue.Queue.{Queue}
+use Rattle.fabric.specs.declared.fabric_core.Line.{Line}
 use Rattle.fabric.specs.Queues.{row}
 
 abbrev pub no_line : LineRecord
@@ -38,5 +38,9 @@ board_of x = record { place = place_of x.request; list = row x.write_backs; last
 unfoldable pub boards_of : List Board → ℕ → rules.Board
 boards_of bs c = slice_index_or (map board_of bs) c blank
 
-unfoldable pub rows_of : List Queue → ℕ → List ℕ
-rows_of qs l = slice_index_or (map row qs) l []
+-- The rows and the keys of an array of lines.
+unfoldable pub rows_of : List Line → ℕ → List ℕ
+rows_of xs l = slice_index_or (map (λ (x : Line). row x.row) xs) l []
+
+unfoldable pub keys_of : List Line → ℕ → ℕ
+keys_of xs l = slice_index_or (map (λ (x : Line). x.key) xs) l 0

@@ -1,5 +1,5 @@
 -- What a fabric with its schedule stands for, and what the answers of its calls say.
-use Rattle.std.specs.Prelude.{ℕ, cond, Ok, Err, Result, nat_le}
+use Rattle.std.specs.Prelude.{ℕ, cond, Some, None, Option, Ok, Err, Result, nat_le}
 use Rattle.memory.specs.declared.interface.LineMemory as memory
 use Rattle.schedule.specs.declared.Schedule as schedule
 use Rattle.rules.specs.Boards.{Board}
@@ -9,8 +9,6 @@ use Rattle.rules.specs.Words.{number}
 use Rattle.rules.specs.declared.refusal.Refusal.{Refusal}
 use Rattle.rules.specs.declared.refusal.Refusal.TheVariants.{NoBoard, NoLine}
 use Rattle.fabric.specs.declared.answer.Collected.{Collected}
-use Rattle.fabric.specs.declared.answer.Reply.{Reply}
-use Rattle.fabric.specs.declared.answer.Reply.TheVariants.{Wait, Hit}
 use Rattle.fabric.specs.declared.answer.SlotReport.{SlotReport}
 use Rattle.fabric.specs.declared.fabric.Fabric.{Fabric}
 use Rattle.fabric.specs.Views.{view}
@@ -18,11 +16,11 @@ use Rattle.fabric.specs.Views.{view}
 abbrev pub world : {S M : Type 0} → schedule.Ghosts S → memory.Ghosts M → Fabric S M → World
 world s m f = record { cells = view m f.core; owners = s.owners f.schedule; count = s.count f.schedule; span = s.span f.schedule }
 
-abbrev pub reply_of : Reply → Answer
-reply_of Wait = wait
-reply_of (Hit w) = hit w
+abbrev pub reply_of : Option ℕ → Answer
+reply_of None = wait
+reply_of (Some w) = hit w
 
-abbrev pub replied_of : Result Reply Refusal → Answer
+abbrev pub replied_of : Result (Option ℕ) Refusal → Answer
 replied_of (Ok r) = reply_of r
 replied_of (Err e) = refused (number e)
 

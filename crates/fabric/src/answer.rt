@@ -1,12 +1,8 @@
 // What the calls answer.
 use rules::deed::Deed;
 
-// A load or store hits, or its request is posted.
-#[derive(Clone, Copy)]
-pub enum Reply {
-    Wait,
-    Hit(u64),
-}
+// The word of a load or store that hits, or none: its request is posted.
+pub type Reply = Option<u64>;
 
 // The result and the waited count of a request that is taken back.
 #[derive(Clone, Copy)]

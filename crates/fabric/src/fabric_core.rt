@@ -9,10 +9,16 @@ mod replies;
 pub(crate) mod slot;
 mod tests;
 
+// The boards that wait for a line, and its key.
+#[derive(Clone, Copy)]
+pub(crate) struct Line {
+    row: Queue,
+    key: u16,
+}
+
 #[derive(Drop)]
 pub struct Core<M> {
     boards: [Board; 16],
-    rows: [Queue; 64],
-    keys: [u16; 64],
+    lines: [Line; 64],
     memory: M,
 }

@@ -7,4 +7,3 @@ mod boards;
 pub mod fabric;
 pub mod fabric_core;
 pub mod queue;
-mod rows;

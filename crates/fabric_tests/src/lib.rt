@@ -4,7 +4,7 @@
 #[cfg(test)]
 mod tests {
     use copystate::states::State;
-    use fabric::answer::{Collected, Reply};
+    use fabric::answer::{Collected, Reply, SlotReport};
     use fabric::fabric::Fabric;
     use memory::flat::FlatMemory;
     use memory::interface::LineMemory;
@@ -44,53 +44,79 @@ mod tests {
         Refused(u8),
     }
 
-    fn replied(answer: Result<Reply, Refusal>) -> Answer {
-        match answer {
-            Ok(Reply::Wait) => Answer::Wait,
-            Ok(Reply::Hit(word)) => Answer::Hit(word),
-            Err(refusal) => Answer::Refused(refusal.number()),
+    impl From<Refusal> for Answer {
+        fn from(refusal: Refusal) -> Answer {
+            Answer::Refused(refusal.number())
         }
     }
 
-    fn done(answer: Result<(), Refusal>) -> Answer {
-        match answer {
-            Ok(()) => Answer::Done,
-            Err(refusal) => Answer::Refused(refusal.number()),
+    // What a call answers where it is not refused.
+    impl From<Reply> for Answer {
+        fn from(reply: Reply) -> Answer {
+            match reply {
+                Some(word) => Answer::Hit(word),
+                None => Answer::Wait,
+            }
         }
     }
 
-    fn got(answer: Result<Collected, Refusal>) -> Answer {
-        match answer {
-            Ok(collected) => Answer::Got(collected.word, collected.waited),
-            Err(refusal) => Answer::Refused(refusal.number()),
+    impl From<()> for Answer {
+        fn from(_: ()) -> Answer {
+            Answer::Done
         }
     }
 
-    fn has(state: Result<State, Refusal>, word: Result<u64, Refusal>) -> Answer {
-        match (state, word) {
-            (Ok(state), Ok(word)) => Answer::Has(state, word),
-            (Err(refusal), _) => Answer::Refused(refusal.number()),
-            (_, Err(refusal)) => Answer::Refused(refusal.number()),
+    impl From<Collected> for Answer {
+        fn from(collected: Collected) -> Answer {
+            Answer::Got(collected.word, collected.waited)
         }
     }
 
-    fn slot<S: Schedule, M: LineMemory>(fabric: &mut Fabric<S, M>) -> Answer {
-        let report = fabric.slot();
-        match report.line {
-            Some(line) => Answer::Did(report.owner, report.deed, line),
-            None => Answer::Idle(report.owner),
+    impl From<(State, u64)> for Answer {
+        fn from((state, word): (State, u64)) -> Answer {
+            Answer::Has(state, word)
         }
+    }
+
+    impl From<SlotReport> for Answer {
+        fn from(report: SlotReport) -> Answer {
+            match report.line {
+                Some(line) => Answer::Did(report.owner, report.deed, line),
+                None => Answer::Idle(report.owner),
+            }
+        }
+    }
+
+    // The answer of a call that may be refused.
+    impl<T> From<Result<T, Refusal>> for Answer
+    where
+        Answer: From<T>,
+    {
+        fn from(answer: Result<T, Refusal>) -> Answer {
+            match answer {
+                Ok(value) => value.into(),
+                Err(refusal) => refusal.into(),
+            }
+        }
+    }
+
+    fn copy<S: Schedule, M: LineMemory>(
+        fabric: &Fabric<S, M>,
+        board: usize,
+        line: usize,
+    ) -> Result<(State, u64), Refusal> {
+        Ok((fabric.state(board, line)?, fabric.word(board, line)?))
     }
 
     fn make<S: Schedule, M: LineMemory>(fabric: &mut Fabric<S, M>, call: Call) -> Answer {
         match call {
-            Call::Load(board, line) => replied(fabric.load(board, line)),
-            Call::Store(board, line, word, key) => replied(fabric.store(board, line, word, key)),
-            Call::Replace(board, line) => done(fabric.replace(board, line)),
-            Call::Guard(line, old, new) => done(fabric.guard(line, old, new)),
-            Call::Collect(board) => got(fabric.collect(board)),
-            Call::Slot => slot(fabric),
-            Call::Copy(board, line) => has(fabric.state(board, line), fabric.word(board, line)),
+            Call::Load(board, line) => fabric.load(board, line).into(),
+            Call::Store(board, line, word, key) => fabric.store(board, line, word, key).into(),
+            Call::Replace(board, line) => fabric.replace(board, line).into(),
+            Call::Guard(line, old, new) => fabric.guard(line, old, new).into(),
+            Call::Collect(board) => fabric.collect(board).into(),
+            Call::Slot => fabric.slot().into(),
+            Call::Copy(board, line) => copy(fabric, board, line).into(),
         }
     }
 

@@ -6,9 +6,8 @@ ghost use Rattle.fabric.specs.Queues.{place};
 ghost use Rattle.fabric.specs.Views.{view};
 
 use crate::board::Board;
-use crate::boards::{age, board_in, has_holder, snoop};
+use crate::boards::{age, has_holder, snoop};
 use crate::fabric_core::Core;
-use crate::rows::{is_empty_in, is_first_in, place_in};
 use copystate::events::Event;
 use memory::interface::LineMemory;
 
@@ -17,35 +16,35 @@ impl<M: LineMemory> Core<M> {
         requires { board < 16 }
         ensures { board_of result.now ≡ board_at (view M.LineMemory self.now) board }
     {
-        board_in(&self.boards, board)
+        &self.boards[board]
     }
 
     pub(crate) fn snoop_all(&mut self, count: usize, sender: usize, line: usize, event: Event)
         requires { (count ≤ 16) × (line < 64) }
         ensures { view M.LineMemory self.new ≡ snoops count sender line event (view M.LineMemory self.old) }
     {
-        snoop(&mut self.boards, count, sender, line, event);
+        snoop(&mut self.boards[..count], sender, line, event);
     }
 
     pub(crate) fn age_all(&mut self, count: usize)
         requires { count ≤ 16 }
         ensures { view M.LineMemory self.new ≡ aged count (view M.LineMemory self.old) }
     {
-        age(&mut self.boards, count);
+        age(&mut self.boards[..count]);
     }
 
     pub(crate) fn join(&mut self, line: usize, board: usize)
         requires { (line < 64) × (board < 16) }
         ensures { view M.LineMemory self.new ≡ joins line board (view M.LineMemory self.old) }
     {
-        self.rows[line].push(board);
+        self.lines[line].row.push(board);
     }
 
     pub(crate) fn leave(&mut self, line: usize)
         requires { line < 64 }
         ensures { view M.LineMemory self.new ≡ leaves line (view M.LineMemory self.old) }
     {
-        let _ = self.rows[line].pop();
+        let _ = self.lines[line].row.pop();
     }
 
     pub(crate) fn write(&mut self, line: usize, word: u64)
@@ -71,35 +70,35 @@ impl<M: LineMemory> Core<M> {
         requires { line < 64 }
         ensures { result ≡ is_first board (row_at (view M.LineMemory self.now) line) }
     {
-        is_first_in(&self.rows, line, board)
+        self.lines[line].row.is_first(board)
     }
 
     pub(crate) fn is_row_empty(&self, line: usize) -> bool
         requires { line < 64 }
         ensures { result ≡ is_empty (row_at (view M.LineMemory self.now) line) }
     {
-        is_empty_in(&self.rows, line)
+        self.lines[line].row.is_empty()
     }
 
     pub(crate) fn is_held(&self, count: usize, line: usize) -> bool
         requires { (count ≤ 16) × (line < 64) }
         ensures { result ≡ held count line (view M.LineMemory self.now) }
     {
-        has_holder(&self.boards, count, line)
+        has_holder(&self.boards[..count], line)
     }
 
     pub(crate) fn key(&self, line: usize) -> u16
         requires { line < 64 }
         ensures { result ≡ key_at (view M.LineMemory self.now) line }
     {
-        self.keys[line]
+        self.lines[line].key
     }
 
     pub(crate) fn set_key(&mut self, line: usize, key: u16)
         requires { line < 64 }
         ensures { view M.LineMemory self.new ≡ with_key line key (view M.LineMemory self.old) }
     {
-        self.keys[line] = key;
+        self.lines[line].key = key;
     }
 
     // The board at a place of a row.
@@ -107,6 +106,6 @@ impl<M: LineMemory> Core<M> {
         requires { line < 64 }
         ensures { result ≡ place (row_at (view M.LineMemory self.now) line) at }
     {
-        place_in(&self.rows, line, at)
+        self.lines[line].row.get(at)
     }
 }

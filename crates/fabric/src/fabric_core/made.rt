@@ -4,7 +4,7 @@ ghost use Rattle.rules.specs.Calls.{empty};
 ghost use Rattle.fabric.specs.Views.{view};
 
 use crate::board::{Board, LineRecord};
-use crate::fabric_core::Core;
+use crate::fabric_core::{Core, Line};
 use crate::queue::Queue;
 use copystate::states::State;
 use memory::interface::LineMemory;
@@ -15,12 +15,12 @@ impl<M: LineMemory> Core<M> {
         ensures { view M.LineMemory result ≡ empty (M.LineMemory.words memory) (M.LineMemory.size memory) }
     {
         let none = Queue::new();
-        let line = LineRecord {
+        let record = LineRecord {
             state: State::I,
             word: 0,
         };
         let board = Board {
-            lines: [line; 64],
+            lines: [record; 64],
             request: None,
             write_backs: none,
             last: LastDeed::WriteBack,
@@ -28,8 +28,7 @@ impl<M: LineMemory> Core<M> {
         };
         Core {
             boards: [board; 16],
-            rows: [none; 64],
-            keys: [0; 64],
+            lines: [Line { row: none, key: 0 }; 64],
             memory,
         }
     }
@@ -39,8 +38,7 @@ impl<M: LineMemory> Core<M> {
     {
         let Core {
             boards: _,
-            rows: _,
-            keys: _,
+            lines: _,
             memory,
         } = self;
         memory

@@ -28,13 +28,13 @@ impl<M: LineMemory> Core<M> {
     {
         if !is_hit(kind, self.board(board).state_at(line)) {
             self.post_at(board, line, kind);
-            return Reply::Wait;
+            return None;
         }
         match kind {
-            Kind::Load => Reply::Hit(self.board(board).word_at(line)),
+            Kind::Load => Some(self.board(board).word_at(line)),
             Kind::Store(word) => {
                 self.store_at(board, line, word);
-                Reply::Hit(word)
+                Some(word)
             }
         }
     }

@@ -1,29 +1,30 @@
-use Rattle.std.proofs.Common.{sym, ap, ◌∙◌, arith}
+use Rattle.std.proofs.Common.{length, sym, ap, ◌∙◌, arith}
+use Rattle.std.proofs.lemmas.List.{set-get_or}
 use Rattle.rules.specs.Boards.{change, moves}
 use Rattle.rules.specs.Cells.{but_for}
 use Rattle.fabric.specs.Boards.{board_of, boards_of}
 use Rattle.fabric.proofs.Loops.{each_none, each_more, each_skip, each_all, each_out, but_own, but_other}
 use Rattle.fabric.proofs.Tables.{board_at_lem, boards_set}
 use Rattle.fabric.proofs.boards.snoop.Goals as goal
-use Rattle.fabric.proofs.boards.snoop.Goals.{then-i-sender, else-i-sender}
+use Rattle.fabric.proofs.boards.snoop.Goals.{then-number-sender, else-number-sender}
 
-pub loop-i-init : goal.loop-i-init
-loop-i-init c = each_none _ _
+pub loop-number-init : goal.loop-number-init
+loop-number-init c = each_none _ _
 
-pub loop-i-preserved : goal.loop-i-preserved
-loop-i-preserved c =
+pub loop-number-preserved : goal.loop-number-preserved
+loop-number-preserved c =
     let g = moves c.args.line c.args.event in
     let h = but_for c.args.sender g in
     let bs = boards_of c.args.boards.now in
-    let i = c.loop-i.i in
-    elim c.if-i-sender.branch [
-      | then-i-sender w ↦
-          ap boards_of w.boards-is ∙ boards_set c.loop-i.boards i w.take.new.self (omega arith) ∙ ap (λ p. change p i (board_of w.take.new.self)) c.loop-i.invariant
+    let i = c.loop-number.number in
+    elim c.if-number-sender.branch [
+      | then-number-sender w ↦
+          ap boards_of w.boards-is ∙ boards_set c.loop-number.boards i w.take.new.self (omega arith) ∙ ap (λ p. change p i (board_of w.take.new.self)) c.loop-number.invariant
           ∙ each_more h bs i (board_of w.take.new.self)
-          (w.take.ensures ∙ ap g (sym (board_at_lem c.loop-i.boards i w.index-boards-i.result (omega arith)) ∙ ap (λ p. p i) c.loop-i.invariant ∙ each_out h bs i i (omega arith)) ∙ sym (but_other c.args.sender g i (bs i) w.if-i-sender.true))
-      | else-i-sender w ↦
-          ap boards_of w.boards-is ∙ c.loop-i.invariant ∙ each_skip h bs i (sym (but_own c.args.sender g i (bs i) w.if-i-sender.false))
+          (w.take.ensures ∙ ap g (sym (board_at_lem c.loop-number.boards i c.index-boards-number.result (omega arith)) ∙ ap (λ p. p i) c.loop-number.invariant ∙ each_out h bs i i (omega arith)) ∙ sym (but_other c.args.sender g i (bs i) w.if-number-sender.true))
+      | else-number-sender w ↦
+          ap boards_of (w.boards-is ∙ set-get_or c.loop-number.boards i c.index-boards-number.result) ∙ c.loop-number.invariant ∙ each_skip h bs i (sym (but_own c.args.sender g i (bs i) w.if-number-sender.false))
     ]
 
 pub returns : goal.returns
-returns c = c.loop-i.invariant ∙ each_all _ _ c.loop-i.i c.args.count c.loop-i-test.false (omega arith)
+returns c = c.loop-number.invariant ∙ each_all _ _ c.loop-number.number (length c.args.boards.now) c.loop-number-test.false (omega arith)

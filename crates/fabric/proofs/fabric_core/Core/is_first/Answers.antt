@@ -1,7 +1,7 @@
-use Rattle.std.proofs.Common.{sym, ap, ◌∙◌}
+use Rattle.std.proofs.Common.{ap, ◌∙◌, rules}
 use Rattle.rules.specs.Cells.{is_first}
-use Rattle.fabric.proofs.Views.{rows_are}
+use Rattle.fabric.proofs.Views.{row_is}
 use Rattle.fabric.proofs.fabric_core.Core.is_first.Goals as goal
 
 pub returns : goal.returns
-returns g c = c.is_first_in.ensures ∙ sym (ap (λ p. is_first c.args.board (p c.args.line)) (rows_are g.M.LineMemory c.args.self.now))
+returns g c = c.is_first.ensures ∙ ap (is_first c.args.board) (row_is g.M.LineMemory c.args.self.now c.args.line _ (search rules))

@@ -1,8 +1,6 @@
-use Rattle.std.proofs.Common.{refl}
-use Rattle.rules.specs.Cells.{key_at}
-use Rattle.fabric.specs.Views.{keys_of, view}
+use Rattle.std.proofs.Common.{rules}
+use Rattle.fabric.proofs.Views.{key_is}
 use Rattle.fabric.proofs.fabric_core.Core.key.Goals as goal
 
 pub returns : goal.returns
-unfolding key_at view keys_of
-returns g c = refl
+returns g c = key_is g.M.LineMemory c.args.self.now c.args.line _ (search rules)

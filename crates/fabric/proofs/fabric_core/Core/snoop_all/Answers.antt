@@ -1,8 +1,10 @@
-use Rattle.rules.specs.Cells.{snoops}
+use Rattle.std.proofs.Common.{rules}
+use Rattle.rules.specs.Boards.{moves}
+use Rattle.rules.specs.Cells.{but_for, snoops}
 use Rattle.fabric.specs.Views.{view}
-use Rattle.fabric.proofs.Views.{put_boards}
+use Rattle.fabric.proofs.Views.{put_front}
 use Rattle.fabric.proofs.fabric_core.Core.snoop_all.Goals as goal
 
 pub returns : goal.returns
 unfolding snoops view
-returns g c = put_boards g.M.LineMemory c.args.self.now _ _ c.snoop.ensures
+returns g c = put_front g.M.LineMemory c.args.self.now c.args.count (but_for c.args.sender (moves c.args.line c.args.event)) c.snoop.new.boards (search rules) (search rules) c.snoop.ensures
