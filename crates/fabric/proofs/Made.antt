@@ -33,19 +33,19 @@ no_words : ◌≡◌ {A = ℕ → ℕ} (words_of (replicate 64 no_line)) (λ l. 
 unfolding words_of
 no_words = fun_ext (λ l. ap (λ (r : LineRecord). r.word) (same_all 64 no_line l))
 
-abbrev fresh_board : Queue → Board
+abbrev fresh_board : Queue 64 → Board
 fresh_board q = record { lines = replicate 64 no_line; request = None; write_backs = q; last = WriteBack; marked = None }
 
-blank_board : (q : Queue) → row q ≡ [] → board_of (fresh_board q) ≡ blank
+blank_board : (q : Queue 64) → row q ≡ [] → board_of (fresh_board q) ≡ blank
 blank_board q e i = record { place = free; list = e i; last = WriteBack; mark = None; state = no_states i; word = no_words i }
 
-pub new_view : {M : Type 0} (m : memory.Ghosts M) (x : M) (q : Queue) → row q ≡ []
-    → view m record { boards = replicate 16 (fresh_board q); lines = replicate 64 record { row = q; key = 0 }; memory = x } ≡ empty (m.words x) (m.size x)
+pub new_view : {M : Type 0} (m : memory.Ghosts M) (x : M) (q : Queue 64) (r : Queue 16) → row q ≡ [] → row r ≡ []
+    → view m record { boards = replicate 16 (fresh_board q); lines = replicate 64 record { row = r; key = 0 }; memory = x } ≡ empty (m.words x) (m.size x)
 unfolding view boards_of rows_of keys_of
-new_view m x q e i = record {
+new_view m x q r e z i = record {
   boards = λ b. seen_all board_of 16 (fresh_board q) blank (blank_board q e) b i;
-  rows = λ l. seen_all (λ (y : Line). row y.row) 64 record { row = q; key = 0 } [] e l i;
+  rows = λ l. seen_all (λ (y : Line). row y.row) 64 record { row = r; key = 0 } [] z l i;
   words = m.words x;
-  keys = λ l. seen_all (λ (y : Line). y.key) 64 record { row = q; key = 0 } 0 refl l i;
+  keys = λ l. seen_all (λ (y : Line). y.key) 64 record { row = r; key = 0 } 0 refl l i;
   size = m.size x;
 }

@@ -80,10 +80,10 @@ keys_set xs l x h = seen_set (λ (y : Line). y.key) xs 0 l x h
 
 -- A line with another row keeps its key, and one with another key its row.
 module _ (xs : List Line) (l : ℕ) (d : Line) (h : l < length xs) where
-  pub rows_put : (q : Queue) → rows_of (set xs l record { row = q; key = (get_or xs l d).key }) ≡ change (rows_of xs) l (row q)
+  pub rows_put : (q : Queue 16) → rows_of (set xs l record { row = q; key = (get_or xs l d).key }) ≡ change (rows_of xs) l (row q)
   rows_put q = rows_set xs l record { row = q; key = (get_or xs l d).key } h
 
-  pub keys_kept : (q : Queue) → keys_of (set xs l record { row = q; key = (get_or xs l d).key }) ≡ keys_of xs
+  pub keys_kept : (q : Queue 16) → keys_of (set xs l record { row = q; key = (get_or xs l d).key }) ≡ keys_of xs
   keys_kept q =
       keys_set xs l record { row = q; key = (get_or xs l d).key } h
       ∙ ap (change (keys_of xs) l) (sym (key_at_lem xs l d h)) ∙ change_own (keys_of xs) l

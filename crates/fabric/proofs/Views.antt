@@ -71,7 +71,7 @@ module _ {M : Type 0} (m : memory.Ghosts M) (f : Core M) where
       put_boards (set f.boards b new) (change (boards_of f.boards) b (g (boards_of f.boards b)))
       (boards_set f.boards b new h ∙ ap (change (boards_of f.boards) b) (e ∙ ap g (sym (board_at_lem f.boards b d h))))
 
-  pub put_row : (l : ℕ) (q : Queue) (d : Line) (g : List ℕ → List ℕ) → l < length f.lines → row q ≡ g (row (get_or f.lines l d).row)
+  pub put_row : (l : ℕ) (q : Queue 16) (d : Line) (g : List ℕ → List ℕ) → l < length f.lines → row q ≡ g (row (get_or f.lines l d).row)
       → view m record { boards = f.boards; lines = set f.lines l record { row = q; key = (get_or f.lines l d).key }; memory = f.memory } ≡ with_row l (g (row_at (view m f) l)) (view m f)
   unfolding view with_row row_at
   put_row l q d g h e i = record {

@@ -1,5 +1,6 @@
 -- What a board's struct stands for.
 use Rattle.std.specs.Prelude.{ℕ, List, [], map, get_or, Some, None, Option, slice_index_or}
+use Rattle.std.specs.Option.{option_map}
 use Rattle.copystate.specs.declared.states.State.{State}
 use Rattle.copystate.specs.declared.states.State.TheVariants.{I}
 use Rattle.rules.specs.Boards as rules
@@ -23,16 +24,16 @@ words_of rs l = (get_or rs l no_line).word
 
 -- The place of a request by its stage.
 abbrev pub place_at : Stage → Request → Place
-place_at Posted q = posted q.line q.kind q.waited
-place_at Sent q = sent q.line q.kind q.waited
-place_at (Served r) q = served q.line q.kind r q.waited
+place_at Posted q = posted q.line.at q.kind q.waited
+place_at Sent q = sent q.line.at q.kind q.waited
+place_at (Served r) q = served q.line.at q.kind r q.waited
 
 abbrev pub place_of : Option Request → Place
 place_of None = free
 place_of (Some q) = place_at q.stage q
 
 abbrev pub board_of : Board → rules.Board
-board_of x = record { place = place_of x.request; list = row x.write_backs; last = x.last; mark = x.marked; state = states_of x.lines; word = words_of x.lines }
+board_of x = record { place = place_of x.request; list = row x.write_backs; last = x.last; mark = option_map (λ l. l.at) x.marked; state = states_of x.lines; word = words_of x.lines }
 
 -- The boards of an array, and blank ones past its end.
 unfoldable pub boards_of : List Board → ℕ → rules.Board

@@ -2,10 +2,15 @@
 use Rattle.std.specs.Prelude.{ℕ, Some, None, Option}
 use Rattle.rules.specs.Cells.{Cells, board_at, with_board}
 use Rattle.rules.specs.Boards.{Board, gives, unmarked}
+use Rattle.fabric.specs.declared.index.Index.{Index}
 
 abbrev pub given : Option ℕ → Board → Option (ℕ × ℕ)
 given None x = None
 given (Some l) x = Some (l, x.word l)
+
+abbrev pub given_at : Option (Index 64 × ℕ) → Option (ℕ × ℕ)
+given_at None = None
+given_at (Some (l, w)) = Some (l.at, w)
 
 abbrev pub gives_first : Option ℕ → Board → Board
 gives_first None x = x

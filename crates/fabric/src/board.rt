@@ -1,6 +1,5 @@
 // What a board holds.
-ghost use Rattle.std.specs.Prelude.{◌≡◌, ◌<◌, length};
-
+use crate::index::LineIndex;
 use crate::queue::Queue;
 use copystate::states::State;
 use rules::kind::{Kind, LastDeed};
@@ -28,17 +27,16 @@ pub(crate) enum Stage {
 #[derive(Clone, Copy)]
 pub struct Request {
     pub(crate) kind: Kind,
-    pub(crate) line: usize,
+    pub(crate) line: LineIndex,
     pub(crate) stage: Stage,
     pub(crate) waited: u64,
-    ghost inside: { line < 64 },
 }
 
 #[derive(Clone, Copy)]
 pub struct Board {
     pub(crate) lines: [LineRecord; 64],
     pub(crate) request: Option<Request>,
-    pub(crate) write_backs: Queue,
+    pub(crate) write_backs: Queue<64>,
     pub(crate) last: LastDeed,
-    pub(crate) marked: Option<usize>,
+    pub(crate) marked: Option<LineIndex>,
 }

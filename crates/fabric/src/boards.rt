@@ -1,20 +1,20 @@
 // The boards of a fabric, as one slice.
-ghost use Rattle.std.specs.Prelude.{◌≡◌, ◌<◌, length};
+ghost use Rattle.std.specs.Prelude.{◌≡◌, length};
 ghost use Rattle.copystate.specs.States.{holds};
 ghost use Rattle.rules.specs.Boards.{ages, moves};
 ghost use Rattle.rules.specs.Cells.{below, but_for, each};
 ghost use Rattle.fabric.specs.Boards.{boards_of};
 
 use crate::board::Board;
+use crate::index::{BoardIndex, LineIndex};
 use copystate::events::Event;
 
 // Every board but the sender takes the event of another board.
-pub(crate) fn snoop(boards: &mut [Board], sender: usize, line: usize, event: Event)
-    requires { line < 64 }
-    ensures { boards_of boards.new ≡ each (length boards.old) (but_for sender (moves line event)) (boards_of boards.old) }
+pub(crate) fn snoop(boards: &mut [Board], sender: BoardIndex, line: LineIndex, event: Event)
+    ensures { boards_of boards.new ≡ each (length boards.old) (but_for sender.at (moves line.at event)) (boards_of boards.old) }
 {
     for (number, board) in boards.iter_mut().enumerate() {
-        if number != sender {
+        if number != sender.at {
             board.take(line, event);
         }
     }
@@ -30,9 +30,8 @@ pub(crate) fn age(boards: &mut [Board])
 }
 
 // Whether one of the boards holds the line.
-pub(crate) fn has_holder(boards: &[Board], line: usize) -> bool
-    requires { line < 64 }
-    ensures { result ≡ below (length boards.now) (λ c. holds ((boards_of boards.now c).state line)) }
+pub(crate) fn has_holder(boards: &[Board], line: LineIndex) -> bool
+    ensures { result ≡ below (length boards.now) (λ c. holds ((boards_of boards.now c).state line.at)) }
 {
     boards.iter().any(|board| board.holds(line))
 }

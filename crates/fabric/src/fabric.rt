@@ -2,6 +2,7 @@
 use crate::fabric_core::Core;
 
 pub mod calls;
+mod found;
 pub mod questions;
 
 #[derive(Drop)]

@@ -1,5 +1,8 @@
 // All that a fabric holds but its schedule.
+ghost use Rattle.std.specs.Prelude.{◌≤◌};
+
 use crate::board::Board;
+use crate::index::BoardIndex;
 use crate::queue::Queue;
 
 mod leaves;
@@ -12,8 +15,16 @@ mod tests;
 // The boards that wait for a line, and its key.
 #[derive(Clone, Copy)]
 pub(crate) struct Line {
-    row: Queue,
+    row: Queue<16>,
     key: u16,
+}
+
+// The owner of a slot, among the first boards, as many as the schedule has.
+#[derive(Clone, Copy)]
+pub(crate) struct Turn {
+    pub(crate) count: usize,
+    pub(crate) owner: BoardIndex,
+    ghost few: { count ≤ 16 },
 }
 
 #[derive(Drop)]

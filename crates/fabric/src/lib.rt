@@ -6,4 +6,5 @@ pub mod board;
 mod boards;
 pub mod fabric;
 pub mod fabric_core;
+mod index;
 pub mod queue;

@@ -1,14 +1,15 @@
 // What a board does for its request and its write-backs.
-ghost use Rattle.std.specs.Prelude.{◌≡◌, ◌<◌, not, IfSome};
+ghost use Rattle.std.specs.Prelude.{◌≡◌, not};
 ghost use Rattle.copystate.specs.States.{holds, upgrades};
 ghost use Rattle.rules.specs.Boards.{ages, free, gets, gives, lifts, placed, posts, replaces, result_of, sends};
 ghost use Rattle.rules.specs.Calls.{is_free};
 ghost use Rattle.rules.specs.Slots.{first_of};
 ghost use Rattle.rules.specs.declared.kind.Kind.TheVariants.{Store};
 ghost use Rattle.fabric.specs.Boards.{board_of};
-ghost use Rattle.fabric.specs.Deeds.{given, gives_first, unmarks};
+ghost use Rattle.fabric.specs.Deeds.{given, given_at, gives_first, unmarks};
 
 use crate::board::{Board, Request, Stage};
+use crate::index::LineIndex;
 use copystate::events::Event;
 use rules::kind::{Kind, LastDeed};
 
@@ -22,24 +23,10 @@ fn result_of(kind: Kind, word: u64) -> u64
     }
 }
 
-impl Request {
-    fn at_stage(self, stage: Stage) -> Request
-        ensures { (result.stage ≡ stage) × ((result.kind ≡ self.kind) × ((result.line ≡ self.line) × (result.waited ≡ self.waited))) }
-    {
-        Request {
-            kind: self.kind,
-            line: self.line,
-            stage,
-            waited: self.waited,
-        }
-    }
-}
-
 impl Board {
     // A request that is posted unsent.
-    pub(crate) fn post(&mut self, line: usize, kind: Kind)
-        requires { line < 64 }
-        ensures { board_of self.new ≡ posts line kind (board_of self.old) }
+    pub(crate) fn post(&mut self, line: LineIndex, kind: Kind)
+        ensures { board_of self.new ≡ posts line.at kind (board_of self.old) }
     {
         if let Kind::Store(_) = kind {
             self.take(line, Event::PostStore);
@@ -54,30 +41,39 @@ impl Board {
 
     // Its own message goes out, and the request waits.
     pub(crate) fn send(&mut self, event: Event, request: Request)
-        ensures { board_of self.new ≡ sends event request.line request.kind request.waited (board_of self.old) }
+        ensures { board_of self.new ≡ sends event request.line.at request.kind request.waited (board_of self.old) }
     {
         self.take(request.line, event);
-        self.request = Some(request.at_stage(Stage::Sent));
+        self.request = Some(Request {
+            stage: Stage::Sent,
+            ..request
+        });
         self.last = LastDeed::Request;
     }
 
     // Its request is served with the memory's word.
     pub(crate) fn get(&mut self, request: Request, word: u64)
-        ensures { board_of self.new ≡ gets request.line request.kind request.waited word (board_of self.old) }
+        ensures { board_of self.new ≡ gets request.line.at request.kind request.waited word (board_of self.old) }
     {
         let result = result_of(request.kind, word);
         self.lay(request.line, Event::OwnData, result);
-        self.request = Some(request.at_stage(Stage::Served(result)));
+        self.request = Some(Request {
+            stage: Stage::Served(result),
+            ..request
+        });
         self.last = LastDeed::Request;
     }
 
     // Its store is served by an upgrade.
     pub(crate) fn lift(&mut self, request: Request, word: u64)
         requires { request.kind ≡ Store word }
-        ensures { board_of self.new ≡ lifts request.line word request.waited (board_of self.old) }
+        ensures { board_of self.new ≡ lifts request.line.at word request.waited (board_of self.old) }
     {
         self.lay(request.line, Event::OwnUpg, word);
-        self.request = Some(request.at_stage(Stage::Served(word)));
+        self.request = Some(Request {
+            stage: Stage::Served(word),
+            ..request
+        });
         self.last = LastDeed::Request;
     }
 
@@ -88,35 +84,28 @@ impl Board {
         if let Some(request) = self.request {
             if !request.is_served() {
                 self.request = Some(Request {
-                    kind: request.kind,
-                    line: request.line,
-                    stage: request.stage,
                     waited: request.waited.saturating_add(1),
+                    ..request
                 });
             }
         }
     }
 
     // Its oldest write-back: the line, and the word for the memory.
-    pub(crate) fn give(&mut self) -> Option<(usize, u64)>
-        ensures value { result ≡ given (first_of (board_of self.old).list) (board_of self.old) }
-        ensures low { IfSome result (λ p. p.0 < 64) }
+    pub(crate) fn give(&mut self) -> Option<(LineIndex, u64)>
+        ensures value { given_at result ≡ given (first_of (board_of self.old).list) (board_of self.old) }
         ensures after { board_of self.new ≡ gives_first (first_of (board_of self.old).list) (board_of self.old) }
     {
-        match self.write_backs.pop() {
-            None => None,
-            Some(line) => {
-                let word = self.word_at(line);
-                self.take(line, Event::OwnPutM);
-                self.last = LastDeed::WriteBack;
-                self.unmark(line);
-                Some((line, word))
-            }
-        }
+        let line = self.write_backs.pop()?;
+        let word = self.word_at(line);
+        self.take(line, Event::OwnPutM);
+        self.last = LastDeed::WriteBack;
+        self.unmark(line);
+        Some((line, word))
     }
 
-    fn unmark(&mut self, line: usize)
-        ensures { board_of self.new ≡ unmarks line (board_of self.old) }
+    fn unmark(&mut self, line: LineIndex)
+        ensures { board_of self.new ≡ unmarks line.at (board_of self.old) }
     {
         if self.marked == Some(line) {
             self.marked = None;
@@ -124,9 +113,8 @@ impl Board {
     }
 
     // It replaces a line; out of M the line is its marked replacement.
-    pub(crate) fn replace(&mut self, line: usize)
-        requires { line < 64 }
-        ensures { board_of self.new ≡ replaces line (board_of self.old) }
+    pub(crate) fn replace(&mut self, line: LineIndex)
+        ensures { board_of self.new ≡ replaces line.at (board_of self.old) }
     {
         let modified = self.state_at(line).is_modified();
         self.take(line, Event::Replace);
@@ -135,16 +123,14 @@ impl Board {
         }
     }
 
-    pub(crate) fn is_ready_to_upgrade(&self, line: usize) -> bool
-        requires { line < 64 }
-        ensures { result ≡ upgrades ((board_of self.now).state line) }
+    pub(crate) fn is_ready_to_upgrade(&self, line: LineIndex) -> bool
+        ensures { result ≡ upgrades ((board_of self.now).state line.at) }
     {
         self.state_at(line).is_upgrading()
     }
 
-    pub(crate) fn holds(&self, line: usize) -> bool
-        requires { line < 64 }
-        ensures { result ≡ holds ((board_of self.now).state line) }
+    pub(crate) fn holds(&self, line: LineIndex) -> bool
+        ensures { result ≡ holds ((board_of self.now).state line.at) }
     {
         self.state_at(line).is_holder()
     }

@@ -1,10 +1,11 @@
 // One record of a board's table of lines: read, and changed with all others as they are.
-ghost use Rattle.std.specs.Prelude.{◌≡◌, ◌<◌};
+ghost use Rattle.std.specs.Prelude.{◌≡◌};
 ghost use Rattle.rules.specs.Boards.{begins, kept, lays, moves, next, stored};
 ghost use Rattle.fabric.specs.Boards.{board_of, states_of, words_of};
 ghost use Rattle.fabric.specs.Records.{recorded};
 
 use crate::board::{Board, LineRecord};
+use crate::index::LineIndex;
 use copystate::events::Event;
 use copystate::states::State;
 
@@ -20,39 +21,34 @@ fn record_of(state: State, word: u64) -> LineRecord
 }
 
 impl Board {
-    pub(crate) fn state_at(&self, line: usize) -> State
-        requires { line < 64 }
-        ensures { result ≡ (board_of self.now).state line }
+    pub(crate) fn state_at(&self, line: LineIndex) -> State
+        ensures { result ≡ (board_of self.now).state line.at }
     {
-        self.lines[line].state
+        self.lines[line.at].state
     }
 
-    pub(crate) fn word_at(&self, line: usize) -> u64
-        requires { line < 64 }
-        ensures { result ≡ (board_of self.now).word line }
+    pub(crate) fn word_at(&self, line: LineIndex) -> u64
+        ensures { result ≡ (board_of self.now).word line.at }
     {
-        self.lines[line].word
+        self.lines[line.at].word
     }
 
-    fn set_record(&mut self, line: usize, new: LineRecord)
-        requires { line < 64 }
-        ensures { board_of self.new ≡ recorded line new.state new.word (board_of self.old) }
+    fn set_record(&mut self, line: LineIndex, new: LineRecord)
+        ensures { board_of self.new ≡ recorded line.at new.state new.word (board_of self.old) }
     {
-        self.lines[line] = new;
+        self.lines[line.at] = new;
     }
 
     // A store that hits.
-    pub(crate) fn store(&mut self, line: usize, word: u64)
-        requires { line < 64 }
-        ensures { board_of self.new ≡ stored line word (board_of self.old) }
+    pub(crate) fn store(&mut self, line: LineIndex, word: u64)
+        ensures { board_of self.new ≡ stored line.at word (board_of self.old) }
     {
-        self.lines[line].word = word;
+        self.lines[line.at].word = word;
     }
 
     // An event, with the word that the copy then has. A write-back that begins goes to the end of the list.
-    pub(crate) fn lay(&mut self, line: usize, event: Event, word: u64)
-        requires { line < 64 }
-        ensures { board_of self.new ≡ lays line event word (board_of self.old) }
+    pub(crate) fn lay(&mut self, line: LineIndex, event: Event, word: u64)
+        ensures { board_of self.new ≡ lays line.at event word (board_of self.old) }
     {
         let state = self.state_at(line);
         self.set_record(line, record_of(next_state(state, event), word));
@@ -62,9 +58,8 @@ impl Board {
     }
 
     // An event that brings no word.
-    pub(crate) fn take(&mut self, line: usize, event: Event)
-        requires { line < 64 }
-        ensures { board_of self.new ≡ moves line event (board_of self.old) }
+    pub(crate) fn take(&mut self, line: LineIndex, event: Event)
+        ensures { board_of self.new ≡ moves line.at event (board_of self.old) }
     {
         let word = self.word_at(line);
         self.lay(line, event, word);

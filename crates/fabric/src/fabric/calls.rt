@@ -5,7 +5,8 @@ ghost use Rattle.fabric.specs.Worlds.{done_of, got_of, replied_of, report_of, wo
 
 use crate::answer::{Collected, Reply, SlotReport};
 use crate::fabric::Fabric;
-use crate::fabric_core::Core;
+use crate::fabric_core::{Core, Turn};
+use crate::index::Index;
 use memory::interface::LineMemory;
 use rules::kind::Kind;
 use rules::refusal::Refusal;
@@ -30,7 +31,7 @@ impl<S: Schedule, M: LineMemory> Fabric<S, M> {
         ensures answer { replied_of result ≡ says (load board line) (world S.Schedule M.LineMemory self.old) }
         ensures after { world S.Schedule M.LineMemory self.new ≡ step (load board line) (world S.Schedule M.LineMemory self.old) }
     {
-        self.core.test_vacant(self.schedule.boards(), board, line)?;
+        let (board, line) = self.vacant(board, line)?;
         Ok(self.core.reply(board, line, Kind::Load))
     }
 
@@ -45,7 +46,7 @@ impl<S: Schedule, M: LineMemory> Fabric<S, M> {
         ensures answer { replied_of result ≡ says (store board line word key) (world S.Schedule M.LineMemory self.old) }
         ensures after { world S.Schedule M.LineMemory self.new ≡ step (store board line word key) (world S.Schedule M.LineMemory self.old) }
     {
-        self.core.test_vacant(self.schedule.boards(), board, line)?;
+        let (board, line) = self.vacant(board, line)?;
         if self.core.is_locked(line, key) {
             return Err(Refusal::KeyDiffers);
         }
@@ -57,7 +58,7 @@ impl<S: Schedule, M: LineMemory> Fabric<S, M> {
         ensures answer { done_of result ≡ says (replace board line) (world S.Schedule M.LineMemory self.old) }
         ensures after { world S.Schedule M.LineMemory self.new ≡ step (replace board line) (world S.Schedule M.LineMemory self.old) }
     {
-        self.core.test_vacant(self.schedule.boards(), board, line)?;
+        let (board, line) = self.vacant(board, line)?;
         if !self.core.can_replace(board, line) {
             return Err(Refusal::NothingToReplace);
         }
@@ -73,9 +74,7 @@ impl<S: Schedule, M: LineMemory> Fabric<S, M> {
         ensures answer { done_of result ≡ says (guard line old new) (world S.Schedule M.LineMemory self.old) }
         ensures after { world S.Schedule M.LineMemory self.new ≡ step (guard line old new) (world S.Schedule M.LineMemory self.old) }
     {
-        if line >= self.core.lines() {
-            return Err(Refusal::NoLine);
-        }
+        let line = self.line(line)?;
         if new > MAX_KEY {
             return Err(Refusal::KeyTooLarge);
         }
@@ -91,9 +90,7 @@ impl<S: Schedule, M: LineMemory> Fabric<S, M> {
         ensures answer { got_of result ≡ says (collect board) (world S.Schedule M.LineMemory self.old) }
         ensures after { world S.Schedule M.LineMemory self.new ≡ step (collect board) (world S.Schedule M.LineMemory self.old) }
     {
-        if board >= self.schedule.boards() {
-            return Err(Refusal::NoBoard);
-        }
+        let board = self.board(board)?;
         let request = self.core.board(board).request.ok_or(Refusal::NoRequest)?;
         let word = request.result().ok_or(Refusal::NotServed)?;
         self.core.free_at(board);
@@ -110,7 +107,10 @@ impl<S: Schedule, M: LineMemory> Fabric<S, M> {
     {
         let count = self.schedule.boards();
         let owner = self.schedule.next_owner();
-        let did = self.core.slot(count, owner);
+        let did = self.core.slot(Turn {
+            count,
+            owner: Index { at: owner },
+        });
         SlotReport {
             owner,
             deed: did.deed,

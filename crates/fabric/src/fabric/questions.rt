@@ -39,9 +39,7 @@ impl<S: Schedule, M: LineMemory> Fabric<S, M> {
     pub fn request(&self, board: usize) -> Result<Option<Request>, Refusal>
         ensures { result_map_both place_of (λ e. e) result ≡ of_board (world S.Schedule M.LineMemory self.now) board (λ x. x.place) }
     {
-        if board >= self.schedule.boards() {
-            return Err(Refusal::NoBoard);
-        }
+        let board = self.board(board)?;
         Ok(self.core.board(board).request)
     }
 
@@ -49,9 +47,7 @@ impl<S: Schedule, M: LineMemory> Fabric<S, M> {
     pub fn write_back(&self, board: usize, at: usize) -> Result<Option<usize>, Refusal>
         ensures { result ≡ of_board (world S.Schedule M.LineMemory self.now) board (λ x. place x.list at) }
     {
-        if board >= self.schedule.boards() {
-            return Err(Refusal::NoBoard);
-        }
+        let board = self.board(board)?;
         Ok(self.core.board(board).write_backs.get(at))
     }
 
@@ -59,30 +55,22 @@ impl<S: Schedule, M: LineMemory> Fabric<S, M> {
     pub fn marked(&self, board: usize) -> Result<Option<usize>, Refusal>
         ensures { result ≡ of_board (world S.Schedule M.LineMemory self.now) board (λ x. x.mark) }
     {
-        if board >= self.schedule.boards() {
-            return Err(Refusal::NoBoard);
-        }
-        Ok(self.core.board(board).marked)
+        let board = self.board(board)?;
+        Ok(self.core.board(board).marked.map(|line| line.at))
     }
 
     pub fn last_deed(&self, board: usize) -> Result<LastDeed, Refusal>
         ensures { result ≡ of_board (world S.Schedule M.LineMemory self.now) board (λ x. x.last) }
     {
-        if board >= self.schedule.boards() {
-            return Err(Refusal::NoBoard);
-        }
+        let board = self.board(board)?;
         Ok(self.core.board(board).last)
     }
 
     pub fn state(&self, board: usize, line: usize) -> Result<State, Refusal>
         ensures { result ≡ of_copy (world S.Schedule M.LineMemory self.now) board line (λ x. x.state line) }
     {
-        if board >= self.schedule.boards() {
-            return Err(Refusal::NoBoard);
-        }
-        if line >= self.core.lines() {
-            return Err(Refusal::NoLine);
-        }
+        let board = self.board(board)?;
+        let line = self.line(line)?;
         Ok(self.core.board(board).state_at(line))
     }
 
@@ -90,12 +78,8 @@ impl<S: Schedule, M: LineMemory> Fabric<S, M> {
     pub fn word(&self, board: usize, line: usize) -> Result<u64, Refusal>
         ensures { result ≡ of_copy (world S.Schedule M.LineMemory self.now) board line (λ x. x.word line) }
     {
-        if board >= self.schedule.boards() {
-            return Err(Refusal::NoBoard);
-        }
-        if line >= self.core.lines() {
-            return Err(Refusal::NoLine);
-        }
+        let board = self.board(board)?;
+        let line = self.line(line)?;
         Ok(self.core.board(board).word_at(line))
     }
 
@@ -103,9 +87,7 @@ impl<S: Schedule, M: LineMemory> Fabric<S, M> {
     pub fn waiting(&self, line: usize, at: usize) -> Result<Option<usize>, Refusal>
         ensures { result ≡ of_line (world S.Schedule M.LineMemory self.now) line (λ s. place (row_at s line) at) }
     {
-        if line >= self.core.lines() {
-            return Err(Refusal::NoLine);
-        }
+        let line = self.line(line)?;
         Ok(self.core.waiting(line, at))
     }
 
@@ -113,9 +95,7 @@ impl<S: Schedule, M: LineMemory> Fabric<S, M> {
     pub fn key(&self, line: usize) -> Result<u16, Refusal>
         ensures { result ≡ of_line (world S.Schedule M.LineMemory self.now) line (λ s. key_at s line) }
     {
-        if line >= self.core.lines() {
-            return Err(Refusal::NoLine);
-        }
+        let line = self.line(line)?;
         Ok(self.core.key(line))
     }
 

@@ -14,7 +14,6 @@ impl<M: LineMemory> Core<M> {
     pub(crate) fn new(memory: M) -> Core<M>
         ensures { view M.LineMemory result ≡ empty (M.LineMemory.words memory) (M.LineMemory.size memory) }
     {
-        let none = Queue::new();
         let record = LineRecord {
             state: State::I,
             word: 0,
@@ -22,13 +21,17 @@ impl<M: LineMemory> Core<M> {
         let board = Board {
             lines: [record; 64],
             request: None,
-            write_backs: none,
+            write_backs: Queue::new(),
             last: LastDeed::WriteBack,
             marked: None,
         };
+        let line = Line {
+            row: Queue::new(),
+            key: 0,
+        };
         Core {
             boards: [board; 16],
-            lines: [Line { row: none, key: 0 }; 64],
+            lines: [line; 64],
             memory,
         }
     }

@@ -1,5 +1,5 @@
 // A load or a store that is accepted: it hits, or its request is posted.
-ghost use Rattle.std.specs.Prelude.{◌≡◌, ◌<◌};
+ghost use Rattle.std.specs.Prelude.{◌≡◌};
 ghost use Rattle.rules.specs.Calls.{asked, hits, replied};
 ghost use Rattle.rules.specs.Cells.{board_at};
 ghost use Rattle.fabric.specs.Views.{view};
@@ -7,6 +7,7 @@ ghost use Rattle.fabric.specs.Worlds.{reply_of};
 
 use crate::answer::Reply;
 use crate::fabric_core::Core;
+use crate::index::{BoardIndex, LineIndex};
 use copystate::states::State;
 use memory::interface::LineMemory;
 use rules::kind::Kind;
@@ -21,10 +22,9 @@ fn is_hit(kind: Kind, state: State) -> bool
 }
 
 impl<M: LineMemory> Core<M> {
-    pub(crate) fn reply(&mut self, board: usize, line: usize, kind: Kind) -> Reply
-        requires { (board < 16) × (line < 64) }
-        ensures answer { reply_of result ≡ replied board line kind (view M.LineMemory self.old) }
-        ensures after { view M.LineMemory self.new ≡ asked board line kind (view M.LineMemory self.old) }
+    pub(crate) fn reply(&mut self, board: BoardIndex, line: LineIndex, kind: Kind) -> Reply
+        ensures answer { reply_of result ≡ replied board.at line.at kind (view M.LineMemory self.old) }
+        ensures after { view M.LineMemory self.new ≡ asked board.at line.at kind (view M.LineMemory self.old) }
     {
         if !is_hit(kind, self.board(board).state_at(line)) {
             self.post_at(board, line, kind);

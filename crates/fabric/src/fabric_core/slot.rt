@@ -1,5 +1,5 @@
 // One slot.
-ghost use Rattle.std.specs.Prelude.{◌≡◌, ◌<◌, ◌≤◌, not};
+ghost use Rattle.std.specs.Prelude.{◌≡◌, not};
 ghost use Rattle.rules.specs.Boards.{posted};
 ghost use Rattle.rules.specs.Cells.{board_at, is_empty};
 ghost use Rattle.rules.specs.Slots.{due, first_of, may_upgrade, ready, requests, sends_out, served_too, serves, slot_of, upgrades_to, writes_back};
@@ -7,7 +7,8 @@ ghost use Rattle.rules.specs.declared.kind.Kind.TheVariants.{Store};
 ghost use Rattle.fabric.specs.Views.{view};
 
 use crate::board::{Request, Stage};
-use crate::fabric_core::Core;
+use crate::fabric_core::{Core, Turn};
+use crate::index::{BoardIndex, LineIndex};
 use copystate::events::Event;
 use memory::interface::LineMemory;
 use rules::deed::Deed;
@@ -50,72 +51,60 @@ const IDLE: Did = Did {
 
 impl<M: LineMemory> Core<M> {
     // The message goes out, all others hear it, and the board joins the row.
-    fn send(&mut self, count: usize, board: usize, request: Request, message: Message)
-        requires { (count ≤ 16) × (board < 16) }
-        ensures { view M.LineMemory self.new ≡ sends_out count board message.own message.heard request.line request.kind request.waited (view M.LineMemory self.old) }
+    fn send(&mut self, turn: Turn, request: Request, message: Message)
+        ensures { view M.LineMemory self.new ≡ sends_out turn.count turn.owner.at message.own message.heard request.line.at request.kind request.waited (view M.LineMemory self.old) }
     {
-        self.snoop_all(count, board, request.line, message.heard);
-        self.send_at(board, message.own, request);
-        self.join(request.line, board);
+        self.snoop_all(turn, request.line, message.heard);
+        self.send_at(turn.owner, message.own, request);
+        self.join(request.line, turn.owner);
     }
 
     // The board leaves the row, and its request is served with the memory's word.
-    fn serve(&mut self, board: usize, request: Request)
-        requires { board < 16 }
-        ensures { view M.LineMemory self.new ≡ serves board request.line request.kind request.waited (view M.LineMemory self.old) }
+    fn serve(&mut self, board: BoardIndex, request: Request)
+        ensures { view M.LineMemory self.new ≡ serves board.at request.line.at request.kind request.waited (view M.LineMemory self.old) }
     {
         self.leave(request.line);
         let word = self.read(request.line);
         self.get_at(board, request, word);
     }
 
-    fn upgrade(&mut self, count: usize, board: usize, request: Request, word: u64)
-        requires bounds { (count ≤ 16) × (board < 16) }
-        requires store { request.kind ≡ Store word }
-        ensures { view M.LineMemory self.new ≡ upgrades_to count board request.line word request.waited (view M.LineMemory self.old) }
+    fn upgrade(&mut self, turn: Turn, request: Request, word: u64)
+        requires { request.kind ≡ Store word }
+        ensures { view M.LineMemory self.new ≡ upgrades_to turn.count turn.owner.at request.line.at word request.waited (view M.LineMemory self.old) }
     {
-        self.snoop_all(count, board, request.line, Event::OtherUpg);
-        self.lift_at(board, request, word);
+        self.snoop_all(turn, request.line, Event::OtherUpg);
+        self.lift_at(turn.owner, request, word);
     }
 
     // First in its row, and the line has no holder.
-    fn is_due(&self, count: usize, board: usize, line: usize) -> bool
-        requires { (count ≤ 16) × (line < 64) }
-        ensures { result ≡ due count board line (view M.LineMemory self.now) }
+    fn is_due(&self, turn: Turn, line: LineIndex) -> bool
+        ensures { result ≡ due turn.count turn.owner.at line.at (view M.LineMemory self.now) }
     {
-        self.is_first(board, line) && !self.is_held(count, line)
+        self.is_first(turn.owner, line) && !self.is_held(turn, line)
     }
 
-    fn is_ready(&self, count: usize, board: usize) -> bool
-        requires { (count ≤ 16) × (board < 16) }
-        ensures { result ≡ ready count board (view M.LineMemory self.now) (board_at (view M.LineMemory self.now) board).place }
+    fn is_ready(&self, turn: Turn) -> bool
+        ensures { result ≡ ready turn.count turn.owner.at (view M.LineMemory self.now) (board_at (view M.LineMemory self.now) turn.owner.at).place }
     {
-        self.board(board)
+        self.board(turn.owner)
             .request
             .is_some_and(|request| match request.stage {
                 Stage::Posted => true,
-                Stage::Sent => self.is_due(count, board, request.line),
+                Stage::Sent => self.is_due(turn, request.line),
                 Stage::Served(_) => false,
             })
     }
 
     // A request that is sent, and served at once where it is due.
-    fn send_and_serve(
-        &mut self,
-        count: usize,
-        board: usize,
-        request: Request,
-        message: Message,
-    ) -> Did
-        requires { (count ≤ 16) × (board < 16) }
-        ensures after { view M.LineMemory self.new ≡ (served_too count board request.line request.kind request.waited message.alone message.too (sends_out count board message.own message.heard request.line request.kind request.waited (view M.LineMemory self.old))).after }
-        ensures deed { result.deed ≡ (served_too count board request.line request.kind request.waited message.alone message.too (sends_out count board message.own message.heard request.line request.kind request.waited (view M.LineMemory self.old))).deed }
-        ensures line { result.line ≡ (served_too count board request.line request.kind request.waited message.alone message.too (sends_out count board message.own message.heard request.line request.kind request.waited (view M.LineMemory self.old))).line }
+    fn send_and_serve(&mut self, turn: Turn, request: Request, message: Message) -> Did
+        ensures after { view M.LineMemory self.new ≡ (served_too turn.count turn.owner.at request.line.at request.kind request.waited message.alone message.too (sends_out turn.count turn.owner.at message.own message.heard request.line.at request.kind request.waited (view M.LineMemory self.old))).after }
+        ensures deed { result.deed ≡ (served_too turn.count turn.owner.at request.line.at request.kind request.waited message.alone message.too (sends_out turn.count turn.owner.at message.own message.heard request.line.at request.kind request.waited (view M.LineMemory self.old))).deed }
+        ensures line { result.line ≡ (served_too turn.count turn.owner.at request.line.at request.kind request.waited message.alone message.too (sends_out turn.count turn.owner.at message.own message.heard request.line.at request.kind request.waited (view M.LineMemory self.old))).line }
     {
-        self.send(count, board, request, message);
-        let line = Some(request.line);
-        if self.is_due(count, board, request.line) {
-            self.serve(board, request);
+        self.send(turn, request, message);
+        let line = Some(request.line.at);
+        if self.is_due(turn, request.line) {
+            self.serve(turn.owner, request);
             return Did {
                 deed: message.too,
                 line,
@@ -128,62 +117,58 @@ impl<M: LineMemory> Core<M> {
     }
 
     // A store goes as an upgrade from SMw where no board waits.
-    fn may_upgrade(&self, board: usize, line: usize) -> bool
-        requires { (board < 16) × (line < 64) }
-        ensures { result ≡ may_upgrade board line (view M.LineMemory self.now) }
+    fn may_upgrade(&self, board: BoardIndex, line: LineIndex) -> bool
+        ensures { result ≡ may_upgrade board.at line.at (view M.LineMemory self.now) }
     {
         self.board(board).is_ready_to_upgrade(line) && self.is_row_empty(line)
     }
 
     // A posted request goes out.
-    fn issue(&mut self, count: usize, board: usize, request: Request) -> Did
-        requires { (count ≤ 16) × (board < 16) }
-        ensures after { view M.LineMemory self.new ≡ (requests count board (view M.LineMemory self.old) (posted request.line request.kind request.waited)).after }
-        ensures deed { result.deed ≡ (requests count board (view M.LineMemory self.old) (posted request.line request.kind request.waited)).deed }
-        ensures line { result.line ≡ (requests count board (view M.LineMemory self.old) (posted request.line request.kind request.waited)).line }
+    fn issue(&mut self, turn: Turn, request: Request) -> Did
+        ensures after { view M.LineMemory self.new ≡ (requests turn.count turn.owner.at (view M.LineMemory self.old) (posted request.line.at request.kind request.waited)).after }
+        ensures deed { result.deed ≡ (requests turn.count turn.owner.at (view M.LineMemory self.old) (posted request.line.at request.kind request.waited)).deed }
+        ensures line { result.line ≡ (requests turn.count turn.owner.at (view M.LineMemory self.old) (posted request.line.at request.kind request.waited)).line }
     {
         match request.kind {
-            Kind::Load => self.send_and_serve(count, board, request, GET_S),
+            Kind::Load => self.send_and_serve(turn, request, GET_S),
             Kind::Store(word) => {
-                if self.may_upgrade(board, request.line) {
-                    self.upgrade(count, board, request, word);
+                if self.may_upgrade(turn.owner, request.line) {
+                    self.upgrade(turn, request, word);
                     return Did {
                         deed: Deed::Upg,
-                        line: Some(request.line),
+                        line: Some(request.line.at),
                     };
                 }
-                self.send_and_serve(count, board, request, GET_M)
+                self.send_and_serve(turn, request, GET_M)
             }
         }
     }
 
-    fn request(&mut self, count: usize, board: usize) -> Did
-        requires { (count ≤ 16) × (board < 16) }
-        ensures after { view M.LineMemory self.new ≡ (requests count board (view M.LineMemory self.old) (board_at (view M.LineMemory self.old) board).place).after }
-        ensures deed { result.deed ≡ (requests count board (view M.LineMemory self.old) (board_at (view M.LineMemory self.old) board).place).deed }
-        ensures line { result.line ≡ (requests count board (view M.LineMemory self.old) (board_at (view M.LineMemory self.old) board).place).line }
+    fn request(&mut self, turn: Turn) -> Did
+        ensures after { view M.LineMemory self.new ≡ (requests turn.count turn.owner.at (view M.LineMemory self.old) (board_at (view M.LineMemory self.old) turn.owner.at).place).after }
+        ensures deed { result.deed ≡ (requests turn.count turn.owner.at (view M.LineMemory self.old) (board_at (view M.LineMemory self.old) turn.owner.at).place).deed }
+        ensures line { result.line ≡ (requests turn.count turn.owner.at (view M.LineMemory self.old) (board_at (view M.LineMemory self.old) turn.owner.at).place).line }
     {
-        let Some(request) = self.board(board).request else {
+        let Some(request) = self.board(turn.owner).request else {
             return IDLE;
         };
         match request.stage {
-            Stage::Posted => self.issue(count, board, request),
+            Stage::Posted => self.issue(turn, request),
             Stage::Sent => {
-                self.serve(board, request);
+                self.serve(turn.owner, request);
                 Did {
                     deed: Deed::Data,
-                    line: Some(request.line),
+                    line: Some(request.line.at),
                 }
             }
             Stage::Served(_) => IDLE,
         }
     }
 
-    fn write_back(&mut self, board: usize) -> Did
-        requires { board < 16 }
-        ensures after { view M.LineMemory self.new ≡ (writes_back board (view M.LineMemory self.old) (first_of (board_at (view M.LineMemory self.old) board).list)).after }
-        ensures deed { result.deed ≡ (writes_back board (view M.LineMemory self.old) (first_of (board_at (view M.LineMemory self.old) board).list)).deed }
-        ensures line { result.line ≡ (writes_back board (view M.LineMemory self.old) (first_of (board_at (view M.LineMemory self.old) board).list)).line }
+    fn write_back(&mut self, board: BoardIndex) -> Did
+        ensures after { view M.LineMemory self.new ≡ (writes_back board.at (view M.LineMemory self.old) (first_of (board_at (view M.LineMemory self.old) board.at).list)).after }
+        ensures deed { result.deed ≡ (writes_back board.at (view M.LineMemory self.old) (first_of (board_at (view M.LineMemory self.old) board.at).list)).deed }
+        ensures line { result.line ≡ (writes_back board.at (view M.LineMemory self.old) (first_of (board_at (view M.LineMemory self.old) board.at).list)).line }
     {
         match self.give_at(board) {
             None => IDLE,
@@ -191,34 +176,32 @@ impl<M: LineMemory> Core<M> {
                 self.write(line, word);
                 Did {
                     deed: Deed::PutM,
-                    line: Some(line),
+                    line: Some(line.at),
                 }
             }
         }
     }
 
-    fn has_write_back(&self, board: usize) -> bool
-        requires { board < 16 }
-        ensures { result ≡ not (is_empty (board_at (view M.LineMemory self.now) board).list) }
+    fn has_write_back(&self, board: BoardIndex) -> bool
+        ensures { result ≡ not (is_empty (board_at (view M.LineMemory self.now) board.at).list) }
     {
         !self.board(board).write_backs.is_empty()
     }
 
-    // The slot of a board, of `count` boards: of two that are ready, the one that was not its last deed.
-    pub(crate) fn slot(&mut self, count: usize, board: usize) -> Did
-        requires { (count ≤ 16) × (board < 16) }
-        ensures after { view M.LineMemory self.new ≡ (slot_of count board (view M.LineMemory self.old)).after }
-        ensures deed { result.deed ≡ (slot_of count board (view M.LineMemory self.old)).deed }
-        ensures line { result.line ≡ (slot_of count board (view M.LineMemory self.old)).line }
+    // Of two that are ready, the one that was not its last deed.
+    pub(crate) fn slot(&mut self, turn: Turn) -> Did
+        ensures after { view M.LineMemory self.new ≡ (slot_of turn.count turn.owner.at (view M.LineMemory self.old)).after }
+        ensures deed { result.deed ≡ (slot_of turn.count turn.owner.at (view M.LineMemory self.old)).deed }
+        ensures line { result.line ≡ (slot_of turn.count turn.owner.at (view M.LineMemory self.old)).line }
     {
-        self.age_all(count);
-        let ready = self.is_ready(count, board);
-        let waits = self.has_write_back(board);
-        let last = self.board(board).last;
+        self.age_all(turn);
+        let ready = self.is_ready(turn);
+        let waits = self.has_write_back(turn.owner);
+        let last = self.board(turn.owner).last;
         match (ready, waits, last) {
-            (true, true, LastDeed::Request) => self.write_back(board),
-            (true, _, _) => self.request(count, board),
-            (false, true, _) => self.write_back(board),
+            (true, true, LastDeed::Request) => self.write_back(turn.owner),
+            (true, _, _) => self.request(turn),
+            (false, true, _) => self.write_back(turn.owner),
             (false, false, _) => IDLE,
         }
     }

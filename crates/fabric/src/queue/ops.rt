@@ -1,37 +1,39 @@
 // What a queue does.
-ghost use Rattle.std.specs.Prelude.{◌≡◌, ℕ, ◌<◌, ◌≤◌, [], drop, IfSome};
+ghost use Rattle.std.specs.Prelude.{◌≡◌, ◌<◌, [], drop};
+ghost use Rattle.std.specs.Option.{option_map};
 ghost use Rattle.rules.specs.Boards.{pushed};
 ghost use Rattle.rules.specs.Cells.{is_empty, is_first};
 ghost use Rattle.rules.specs.Slots.{first_of};
 ghost use Rattle.fabric.specs.Queues.{place, row};
 
+use crate::index::Index;
 use crate::queue::Queue;
 
-impl Queue {
-    pub(crate) fn new() -> Queue
+impl<const N: usize> Queue<N> {
+    // Nothing in it; its room may hold any index.
+    pub(crate) fn new() -> Queue<N>
+        requires { 0 < N }
         ensures { row result ≡ [] }
     {
         Queue {
-            items: [0; 16],
+            items: [Index { at: 0 }; 16],
             len: 0,
         }
     }
 
-    // One number more at the end, where there is room.
-    pub(crate) fn push(&mut self, x: usize)
-        requires { x < 64 }
-        ensures { row self.new ≡ pushed (row self.old) x }
+    // One index more at the end, where there is room.
+    pub(crate) fn push(&mut self, x: Index<N>)
+        ensures { row self.new ≡ pushed (row self.old) x.entry.at }
     {
         if self.len < 16 {
-            self.items[self.len] = x as u8;
+            self.items[self.len] = x;
             self.len += 1;
         }
     }
 
     // Takes the oldest out.
-    pub(crate) fn pop(&mut self) -> Option<usize>
-        ensures value { result ≡ first_of (row self.old) }
-        ensures low { IfSome result (λ x. x < 64) }
+    pub(crate) fn pop(&mut self) -> Option<Index<N>>
+        ensures value { option_map (λ x. x.at) result ≡ first_of (row self.old) }
         ensures rest { row self.new ≡ drop 1 (row self.old) }
     {
         if self.len == 0 {
@@ -40,7 +42,7 @@ impl Queue {
         let oldest = self.items[0];
         self.items.rotate_left(1);
         self.len -= 1;
-        Some(oldest as usize)
+        Some(oldest)
     }
 
     pub(crate) fn is_empty(&self) -> bool
@@ -50,10 +52,10 @@ impl Queue {
     }
 
     // Whether x is the oldest.
-    pub(crate) fn is_first(&self, x: usize) -> bool
-        ensures { result ≡ is_first x (row self.now) }
+    pub(crate) fn is_first(&self, x: Index<N>) -> bool
+        ensures { result ≡ is_first x.entry.at (row self.now) }
     {
-        self.len > 0 && self.items[0] as usize == x
+        self.len > 0 && self.items[0].at == x.at
     }
 
     // The number at a place, oldest first, or none past the end.
@@ -61,7 +63,7 @@ impl Queue {
         ensures { result ≡ place (row self.now) at }
     {
         if at < self.len {
-            Some(self.items[at] as usize)
+            Some(self.items[at].at)
         } else {
             None
         }

@@ -11,6 +11,6 @@ use Rattle.fabric.proofs.boards.has_holder.Goals as goal
 pub returns : goal.returns
 unfolding boards_of
 returns c =
-    let test = λ (x : Board). holds (x.state c.args.line) in
+    let test = λ (x : Board). holds (x.state c.args.line.at) in
     any_from_yields_List (λ (x : fabric.Board). test (board_of x)) _ _ _ c.any.ensures.ran (YieldsList-from_slice c.args.boards.now cc) (λ x b q k. search (rules, tests))
     ∙ below_list test board_of c.args.boards.now

@@ -13,17 +13,17 @@ loop-number-init c = each_none _ _
 
 pub loop-number-preserved : goal.loop-number-preserved
 loop-number-preserved c =
-    let g = moves c.args.line c.args.event in
-    let h = but_for c.args.sender g in
+    let g = moves c.args.line.at c.args.event in
+    let h = but_for c.args.sender.at g in
     let bs = boards_of c.args.boards.now in
     let i = c.loop-number.number in
     elim c.if-number-sender.branch [
       | then-number-sender w ↦
           ap boards_of w.boards-is ∙ boards_set c.loop-number.boards i w.take.new.self (omega arith) ∙ ap (λ p. change p i (board_of w.take.new.self)) c.loop-number.invariant
           ∙ each_more h bs i (board_of w.take.new.self)
-          (w.take.ensures ∙ ap g (sym (board_at_lem c.loop-number.boards i c.index-boards-number.result (omega arith)) ∙ ap (λ p. p i) c.loop-number.invariant ∙ each_out h bs i i (omega arith)) ∙ sym (but_other c.args.sender g i (bs i) w.if-number-sender.true))
+          (w.take.ensures ∙ ap g (sym (board_at_lem c.loop-number.boards i c.index-boards-number.result (omega arith)) ∙ ap (λ p. p i) c.loop-number.invariant ∙ each_out h bs i i (omega arith)) ∙ sym (but_other c.args.sender.at g i (bs i) w.if-number-sender.true))
       | else-number-sender w ↦
-          ap boards_of (w.boards-is ∙ set-get_or c.loop-number.boards i c.index-boards-number.result) ∙ c.loop-number.invariant ∙ each_skip h bs i (sym (but_own c.args.sender g i (bs i) w.if-number-sender.false))
+          ap boards_of (w.boards-is ∙ set-get_or c.loop-number.boards i c.index-boards-number.result) ∙ c.loop-number.invariant ∙ each_skip h bs i (sym (but_own c.args.sender.at g i (bs i) w.if-number-sender.false))
     ]
 
 pub returns : goal.returns

@@ -5,4 +5,4 @@ use Rattle.fabric.proofs.board.Board.store.Goals as goal
 
 pub returns : goal.returns
 unfolding states_of
-returns c = set_word c.args.self.now c.args.line _ (search rules) refl
+returns c = set_word c.args.self.now c.args.line.at _ (search rules) refl

@@ -7,4 +7,4 @@ use Rattle.fabric.proofs.fabric_core.Core.age_all.Goals as goal
 
 pub returns : goal.returns
 unfolding aged view
-returns g c = put_front g.M.LineMemory c.args.self.now c.args.count (λ k. ages) c.age.new.boards (search rules) (search rules) c.age.ensures
+returns g c = put_front g.M.LineMemory c.args.self.now c.args.turn.count (λ k. ages) c.age.new.boards (search rules) (search rules) c.age.ensures

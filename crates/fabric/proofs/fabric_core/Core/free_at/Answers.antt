@@ -4,4 +4,4 @@ use Rattle.fabric.proofs.Views.{on_board}
 use Rattle.fabric.proofs.fabric_core.Core.free_at.Goals as goal
 
 pub returns : goal.returns
-returns g c = on_board g.M.LineMemory c.args.self.now c.args.board c.clear.new.self _ (placed free) (search rules) c.clear.ensures
+returns g c = on_board g.M.LineMemory c.args.self.now c.args.board.at c.clear.new.self _ (placed free) (search rules) c.clear.ensures

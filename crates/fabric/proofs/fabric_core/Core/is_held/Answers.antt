@@ -8,4 +8,4 @@ use Rattle.fabric.proofs.fabric_core.Core.is_held.Goals as goal
 
 pub returns : goal.returns
 unfolding held view
-returns g c = c.has_holder.ensures ∙ below_front (λ (x : Board). holds (x.state c.args.line)) c.args.count c.args.self.now.boards (search rules)
+returns g c = c.has_holder.ensures ∙ below_front (λ (x : Board). holds (x.state c.args.line.at)) c.args.turn.count c.args.self.now.boards (search rules)

@@ -4,4 +4,4 @@ use Rattle.fabric.proofs.Views.{row_is}
 use Rattle.fabric.proofs.fabric_core.Core.is_row_empty.Goals as goal
 
 pub returns : goal.returns
-returns g c = c.is_empty.ensures ∙ ap is_empty (row_is g.M.LineMemory c.args.self.now c.args.line _ (search rules))
+returns g c = c.is_empty.ensures ∙ ap is_empty (row_is g.M.LineMemory c.args.self.now c.args.line.at _ (search rules))

@@ -1,0 +1,51 @@
+// The board and the line that a call names, or why it is refused.
+ghost use Rattle.std.specs.Prelude.{◌≡◌, ◌<◌, ◌≤◌, IfOk, MatchResult};
+ghost use Rattle.std.specs.Result.{result_err};
+ghost use Rattle.rules.specs.Calls.{vacant};
+ghost use Rattle.rules.specs.Cells.{size_of};
+ghost use Rattle.rules.specs.declared.refusal.Refusal.TheVariants.{NoBoard, NoLine};
+ghost use Rattle.fabric.specs.Worlds.{world};
+
+use crate::fabric::Fabric;
+use crate::index::{BoardIndex, Index, LineIndex};
+use memory::interface::LineMemory;
+use rules::refusal::Refusal;
+use schedule::Schedule;
+
+impl<S: Schedule, M: LineMemory> Fabric<S, M> {
+    pub(crate) fn board(&self, board: usize) -> Result<BoardIndex, Refusal>
+        ensures { MatchResult result (λ i. (i.at ≡ board) × (board < (world S.Schedule M.LineMemory self.now).count)) (λ e. (e ≡ NoBoard) × ((world S.Schedule M.LineMemory self.now).count ≤ board)) }
+    {
+        if board >= self.schedule.boards() {
+            return Err(Refusal::NoBoard);
+        }
+        Ok(Index { at: board })
+    }
+
+    pub(crate) fn line(&self, line: usize) -> Result<LineIndex, Refusal>
+        ensures { MatchResult result (λ i. (i.at ≡ line) × (line < size_of (world S.Schedule M.LineMemory self.now).cells)) (λ e. (e ≡ NoLine) × (size_of (world S.Schedule M.LineMemory self.now).cells ≤ line)) }
+    {
+        if line >= self.core.lines() {
+            return Err(Refusal::NoLine);
+        }
+        Ok(Index { at: line })
+    }
+
+    // A board without a request, and a line.
+    #[tactic(auto, unfolding(rules::specs::Calls::vacant))]
+    pub(crate) fn vacant(
+        &self,
+        board: usize,
+        line: usize,
+    ) -> Result<(BoardIndex, LineIndex), Refusal>
+        ensures value { result_err result ≡ vacant (world S.Schedule M.LineMemory self.now).count board line (world S.Schedule M.LineMemory self.now).cells }
+        ensures found { IfOk result (λ p. (p.0.at ≡ board) × (p.1.at ≡ line)) }
+    {
+        let board = self.board(board)?;
+        let line = self.line(line)?;
+        if self.core.is_busy(board) {
+            return Err(Refusal::Busy);
+        }
+        Ok((board, line))
+    }
+}
