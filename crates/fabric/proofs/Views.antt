@@ -1,5 +1,5 @@
 -- The meaning of the tables after one of them is changed.
-use Rattle.std.proofs.Common.{◌≡◌, ℕ, ◌<◌, ◌≤◌, List, [], ◌++◌, length, get_or, take, drop, set, Some, None, Option, sym, refl, ap, ◌∙◌}
+use Rattle.std.proofs.Common.{◌≡◌, ℕ, ◌<◌, ◌≤◌, List, ◌++◌, length, get_or, take, drop, set, Some, None, Option, sym, refl, ap, ◌∙◌}
 use Rattle.memory.specs.Interface.{written}
 use Rattle.memory.specs.declared.interface.LineMemory as memory
 use Rattle.rules.specs.Boards as rules

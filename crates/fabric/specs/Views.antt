@@ -1,5 +1,4 @@
 -- What a fabric's tables and its memory stand for.
-use Rattle.std.specs.Prelude.{ℕ}
 use Rattle.memory.specs.declared.interface.LineMemory as memory
 use Rattle.rules.specs.Cells.{Cells}
 use Rattle.fabric.specs.declared.fabric_core.Core.{Core}
