@@ -5,3 +5,4 @@ pub mod Boards
 pub mod Views
 pub mod Worlds
 pub mod Requests
+pub mod Slots

@@ -4,7 +4,6 @@ ghost use Rattle.copystate.specs.States.{holds, upgrades};
 ghost use Rattle.rules.specs.Boards.{ages, free, gets, gives, lifts, placed, posts, replaces, result_of, sends};
 ghost use Rattle.rules.specs.Calls.{is_free};
 ghost use Rattle.rules.specs.Slots.{first_of};
-ghost use Rattle.rules.specs.declared.kind.Kind.TheVariants.{Store};
 ghost use Rattle.fabric.specs.Boards.{board_of};
 ghost use Rattle.fabric.specs.Deeds.{given, given_at, gives_first, unmarks};
 
@@ -64,13 +63,13 @@ impl Board {
         self.last = LastDeed::Request;
     }
 
-    // Its store is served by an upgrade.
+    // Its store of the word is served by an upgrade.
     pub(crate) fn lift(&mut self, request: Request, word: u64)
-        requires { request.kind ≡ Store word }
         ensures { board_of self.new ≡ lifts request.line.at word request.waited (board_of self.old) }
     {
         self.lay(request.line, Event::OwnUpg, word);
         self.request = Some(Request {
+            kind: Kind::Store(word),
             stage: Stage::Served(word),
             ..request
         });

@@ -114,7 +114,7 @@ impl<S: Schedule, M: LineMemory> Fabric<S, M> {
         SlotReport {
             owner,
             deed: did.deed,
-            line: did.line,
+            line: did.line.map(|line| line.at),
         }
     }
 }

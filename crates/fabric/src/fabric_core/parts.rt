@@ -3,7 +3,6 @@ ghost use Rattle.std.specs.Prelude.{◌≡◌};
 ghost use Rattle.rules.specs.Boards.{free, gets, lifts, placed, posts, replaces, sends, stored};
 ghost use Rattle.rules.specs.Cells.{board_at, with_board};
 ghost use Rattle.rules.specs.Slots.{first_of};
-ghost use Rattle.rules.specs.declared.kind.Kind.TheVariants.{Store};
 ghost use Rattle.fabric.specs.Deeds.{gave_at, given, given_at};
 ghost use Rattle.fabric.specs.Views.{view};
 
@@ -52,7 +51,6 @@ impl<M: LineMemory> Core<M> {
     }
 
     pub(crate) fn lift_at(&mut self, board: BoardIndex, request: Request, word: u64)
-        requires { request.kind ≡ Store word }
         ensures { view M.LineMemory self.new ≡ with_board board.at (lifts request.line.at word request.waited (board_at (view M.LineMemory self.old) board.at)) (view M.LineMemory self.old) }
     {
         self.boards[board.at].lift(request, word);

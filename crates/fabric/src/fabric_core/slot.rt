@@ -3,7 +3,7 @@ ghost use Rattle.std.specs.Prelude.{◌≡◌, not};
 ghost use Rattle.rules.specs.Boards.{posted};
 ghost use Rattle.rules.specs.Cells.{board_at, is_empty};
 ghost use Rattle.rules.specs.Slots.{due, first_of, may_upgrade, ready, requests, sends_out, served_too, serves, slot_of, upgrades_to, writes_back};
-ghost use Rattle.rules.specs.declared.kind.Kind.TheVariants.{Store};
+ghost use Rattle.fabric.specs.Slots.{done};
 ghost use Rattle.fabric.specs.Views.{view};
 
 use crate::board::{Request, Stage};
@@ -18,7 +18,7 @@ use rules::kind::{Kind, LastDeed};
 #[derive(Clone, Copy)]
 pub struct Did {
     pub(crate) deed: Deed,
-    pub(crate) line: Option<usize>,
+    pub(crate) line: Option<LineIndex>,
 }
 
 // A request's message: the event of its board, that of the others, and the deed when it is sent alone or served too.
@@ -69,7 +69,6 @@ impl<M: LineMemory> Core<M> {
     }
 
     fn upgrade(&mut self, turn: Turn, request: Request, word: u64)
-        requires { request.kind ≡ Store word }
         ensures { view M.LineMemory self.new ≡ upgrades_to turn.count turn.owner.at request.line.at word request.waited (view M.LineMemory self.old) }
     {
         self.snoop_all(turn, request.line, Event::OtherUpg);
@@ -97,12 +96,10 @@ impl<M: LineMemory> Core<M> {
 
     // A request that is sent, and served at once where it is due.
     fn send_and_serve(&mut self, turn: Turn, request: Request, message: Message) -> Did
-        ensures after { view M.LineMemory self.new ≡ (served_too turn.count turn.owner.at request.line.at request.kind request.waited message.alone message.too (sends_out turn.count turn.owner.at message.own message.heard request.line.at request.kind request.waited (view M.LineMemory self.old))).after }
-        ensures deed { result.deed ≡ (served_too turn.count turn.owner.at request.line.at request.kind request.waited message.alone message.too (sends_out turn.count turn.owner.at message.own message.heard request.line.at request.kind request.waited (view M.LineMemory self.old))).deed }
-        ensures line { result.line ≡ (served_too turn.count turn.owner.at request.line.at request.kind request.waited message.alone message.too (sends_out turn.count turn.owner.at message.own message.heard request.line.at request.kind request.waited (view M.LineMemory self.old))).line }
+        ensures { done result (view M.LineMemory self.new) ≡ served_too turn.count turn.owner.at request.line.at request.kind request.waited message.alone message.too (sends_out turn.count turn.owner.at message.own message.heard request.line.at request.kind request.waited (view M.LineMemory self.old)) }
     {
         self.send(turn, request, message);
-        let line = Some(request.line.at);
+        let line = Some(request.line);
         if self.is_due(turn, request.line) {
             self.serve(turn.owner, request);
             return Did {
@@ -125,9 +122,7 @@ impl<M: LineMemory> Core<M> {
 
     // A posted request goes out.
     fn issue(&mut self, turn: Turn, request: Request) -> Did
-        ensures after { view M.LineMemory self.new ≡ (requests turn.count turn.owner.at (view M.LineMemory self.old) (posted request.line.at request.kind request.waited)).after }
-        ensures deed { result.deed ≡ (requests turn.count turn.owner.at (view M.LineMemory self.old) (posted request.line.at request.kind request.waited)).deed }
-        ensures line { result.line ≡ (requests turn.count turn.owner.at (view M.LineMemory self.old) (posted request.line.at request.kind request.waited)).line }
+        ensures { done result (view M.LineMemory self.new) ≡ requests turn.count turn.owner.at (view M.LineMemory self.old) (posted request.line.at request.kind request.waited) }
     {
         match request.kind {
             Kind::Load => self.send_and_serve(turn, request, GET_S),
@@ -136,7 +131,7 @@ impl<M: LineMemory> Core<M> {
                     self.upgrade(turn, request, word);
                     return Did {
                         deed: Deed::Upg,
-                        line: Some(request.line.at),
+                        line: Some(request.line),
                     };
                 }
                 self.send_and_serve(turn, request, GET_M)
@@ -145,9 +140,7 @@ impl<M: LineMemory> Core<M> {
     }
 
     fn request(&mut self, turn: Turn) -> Did
-        ensures after { view M.LineMemory self.new ≡ (requests turn.count turn.owner.at (view M.LineMemory self.old) (board_at (view M.LineMemory self.old) turn.owner.at).place).after }
-        ensures deed { result.deed ≡ (requests turn.count turn.owner.at (view M.LineMemory self.old) (board_at (view M.LineMemory self.old) turn.owner.at).place).deed }
-        ensures line { result.line ≡ (requests turn.count turn.owner.at (view M.LineMemory self.old) (board_at (view M.LineMemory self.old) turn.owner.at).place).line }
+        ensures { done result (view M.LineMemory self.new) ≡ requests turn.count turn.owner.at (view M.LineMemory self.old) (board_at (view M.LineMemory self.old) turn.owner.at).place }
     {
         let Some(request) = self.board(turn.owner).request else {
             return IDLE;
@@ -158,7 +151,7 @@ impl<M: LineMemory> Core<M> {
                 self.serve(turn.owner, request);
                 Did {
                     deed: Deed::Data,
-                    line: Some(request.line.at),
+                    line: Some(request.line),
                 }
             }
             Stage::Served(_) => IDLE,
@@ -166,9 +159,7 @@ impl<M: LineMemory> Core<M> {
     }
 
     fn write_back(&mut self, board: BoardIndex) -> Did
-        ensures after { view M.LineMemory self.new ≡ (writes_back board.at (view M.LineMemory self.old) (first_of (board_at (view M.LineMemory self.old) board.at).list)).after }
-        ensures deed { result.deed ≡ (writes_back board.at (view M.LineMemory self.old) (first_of (board_at (view M.LineMemory self.old) board.at).list)).deed }
-        ensures line { result.line ≡ (writes_back board.at (view M.LineMemory self.old) (first_of (board_at (view M.LineMemory self.old) board.at).list)).line }
+        ensures { done result (view M.LineMemory self.new) ≡ writes_back board.at (view M.LineMemory self.old) (first_of (board_at (view M.LineMemory self.old) board.at).list) }
     {
         match self.give_at(board) {
             None => IDLE,
@@ -176,7 +167,7 @@ impl<M: LineMemory> Core<M> {
                 self.write(line, word);
                 Did {
                     deed: Deed::PutM,
-                    line: Some(line.at),
+                    line: Some(line),
                 }
             }
         }
@@ -190,9 +181,7 @@ impl<M: LineMemory> Core<M> {
 
     // Of two that are ready, the one that was not its last deed.
     pub(crate) fn slot(&mut self, turn: Turn) -> Did
-        ensures after { view M.LineMemory self.new ≡ (slot_of turn.count turn.owner.at (view M.LineMemory self.old)).after }
-        ensures deed { result.deed ≡ (slot_of turn.count turn.owner.at (view M.LineMemory self.old)).deed }
-        ensures line { result.line ≡ (slot_of turn.count turn.owner.at (view M.LineMemory self.old)).line }
+        ensures { done result (view M.LineMemory self.new) ≡ slot_of turn.count turn.owner.at (view M.LineMemory self.old) }
     {
         self.age_all(turn);
         let ready = self.is_ready(turn);

@@ -13,10 +13,7 @@ use memory::interface::LineMemory;
 fn is_replaceable(state: State) -> bool
     ensures { result ≡ replaceable state }
 {
-    match state {
-        State::I | State::MIwb => false,
-        _ => true,
-    }
+    !matches!(state, State::I | State::MIwb)
 }
 
 impl<M: LineMemory> Core<M> {
