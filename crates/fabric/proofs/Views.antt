@@ -63,20 +63,21 @@ module _ {M : Type 0} (m : memory.Ghosts M) (f : Core M) where
       let k : length (take n f.boards) ≡ n = length-take-le n f.boards long in
       put_boards (ys ++ drop n f.boards) (each n h (boards_of f.boards)) (each_front h n f.boards ys long (size ∙ k) (e ∙ ap (λ j. each j h (boards_of (take n f.boards))) k))
 
-  -- A board changed in its place.
-  pub on_board : (b : ℕ) (new d : Board) (g : rules.Board → rules.Board) → b < length f.boards → board_of new ≡ g (board_of (get_or f.boards b d))
-      → view m record { boards = set f.boards b new; lines = f.lines; memory = f.memory } ≡ with_board b (g (board_at (view m f) b)) (view m f)
-  unfolding with_board view board_at
-  on_board b new d g h e =
-      put_boards (set f.boards b new) (change (boards_of f.boards) b (g (boards_of f.boards b)))
-      (boards_set f.boards b new h ∙ ap (change (boards_of f.boards) b) (e ∙ ap g (sym (board_at_lem f.boards b d h))))
+  -- A board or a row changed in its place.
+  pub put_board : (b : ℕ) (x : Board) → b < length f.boards → view m record { boards = set f.boards b x; lines = f.lines; memory = f.memory } ≡ with_board b (board_of x) (view m f)
+  unfolding with_board view
+  put_board b x h = put_boards (set f.boards b x) (change (boards_of f.boards) b (board_of x)) (boards_set f.boards b x h)
 
-  pub put_row : (l : ℕ) (q : Queue 16) (d : Line) (g : List ℕ → List ℕ) → l < length f.lines → row q ≡ g (row (get_or f.lines l d).row)
-      → view m record { boards = f.boards; lines = set f.lines l record { row = q; key = (get_or f.lines l d).key }; memory = f.memory } ≡ with_row l (g (row_at (view m f) l)) (view m f)
-  unfolding view with_row row_at
-  put_row l q d g h e i = record {
+  pub on_board : (b : ℕ) (x d : Board) (g : rules.Board → rules.Board) → b < length f.boards → board_of x ≡ g (board_of (get_or f.boards b d))
+      → view m record { boards = set f.boards b x; lines = f.lines; memory = f.memory } ≡ with_board b (g (board_at (view m f) b)) (view m f)
+  on_board b x d g h e = put_board b x h ∙ ap (λ y. with_board b y (view m f)) (e ∙ ap g (board_is b d h))
+
+  pub put_row : (l : ℕ) (q : Queue 16) (d : Line) → l < length f.lines
+      → view m record { boards = f.boards; lines = set f.lines l record { row = q; key = (get_or f.lines l d).key }; memory = f.memory } ≡ with_row l (row q) (view m f)
+  unfolding view with_row
+  put_row l q d h i = record {
     boards = boards_of f.boards;
-    rows = (rows_put f.lines l d h q ∙ ap (change (rows_of f.lines) l) (e ∙ ap g (sym (row_at_lem f.lines l d h)))) i;
+    rows = rows_put f.lines l d h q i;
     words = m.words f.memory;
     keys = keys_kept f.lines l d h q i;
     size = m.size f.memory;

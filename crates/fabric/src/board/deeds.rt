@@ -141,6 +141,7 @@ impl Board {
         self.request = None;
     }
 
+    #[tactic(auto, using(crate::proofs::Tables::request_place))]
     pub(crate) fn has_request(&self) -> bool
         ensures { result ≡ not (is_free (board_of self.now).place) }
     {

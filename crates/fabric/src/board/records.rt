@@ -10,6 +10,7 @@ use copystate::events::Event;
 use copystate::states::State;
 
 // The record of a state: the word stays only with a copy.
+#[tactic(auto, unfolding(rules::specs::Boards::kept))]
 fn record_of(state: State, word: u64) -> LineRecord
     ensures { (result.state ≡ state) × (result.word ≡ kept state word) }
 {
@@ -21,18 +22,21 @@ fn record_of(state: State, word: u64) -> LineRecord
 }
 
 impl Board {
+    #[tactic(auto, unfolding(crate::specs::Boards::states_of))]
     pub(crate) fn state_at(&self, line: LineIndex) -> State
         ensures { result ≡ (board_of self.now).state line.at }
     {
         self.lines[line.at].state
     }
 
+    #[tactic(auto, unfolding(crate::specs::Boards::words_of))]
     pub(crate) fn word_at(&self, line: LineIndex) -> u64
         ensures { result ≡ (board_of self.now).word line.at }
     {
         self.lines[line.at].word
     }
 
+    #[tactic(auto, using(crate::proofs::Tables::set_record_lem))]
     fn set_record(&mut self, line: LineIndex, new: LineRecord)
         ensures { board_of self.new ≡ recorded line.at new.state new.word (board_of self.old) }
     {
@@ -40,6 +44,7 @@ impl Board {
     }
 
     // A store that hits.
+    #[tactic(auto, using(crate::proofs::Tables::set_word), unfolding(crate::specs::Boards::states_of))]
     pub(crate) fn store(&mut self, line: LineIndex, word: u64)
         ensures { board_of self.new ≡ stored line.at word (board_of self.old) }
     {
@@ -66,12 +71,14 @@ impl Board {
     }
 }
 
+#[tactic(auto, unfolding(rules::specs::Boards::next))]
 fn next_state(state: State, event: Event) -> State
     ensures { result ≡ next state event }
 {
     state.next(event)
 }
 
+#[tactic(auto, unfolding(rules::specs::Boards::begins))]
 fn begins_write_back(state: State, event: Event) -> bool
     ensures { result ≡ begins state event }
 {

@@ -13,6 +13,7 @@ use copystate::events::Event;
 use memory::interface::LineMemory;
 use rules::kind::Kind;
 
+#[tactic(auto, using(crate::proofs::Views::put_board, crate::proofs::Views::board_is))]
 impl<M: LineMemory> Core<M> {
     pub(crate) fn post_at(&mut self, board: BoardIndex, line: LineIndex, kind: Kind)
         ensures { view M.LineMemory self.new ≡ with_board board.at (posts line.at kind (board_at (view M.LineMemory self.old) board.at)) (view M.LineMemory self.old) }
