@@ -10,6 +10,7 @@ use crate::index::{BoardIndex, LineIndex};
 use copystate::events::Event;
 
 // Every board but the sender takes the event of another board.
+#[tactic(auto, using(crate::proofs::Loops::each_none, crate::proofs::Loops::each_all))]
 pub(crate) fn snoop(boards: &mut [Board], sender: BoardIndex, line: LineIndex, event: Event)
     ensures { boards_of boards.new ≡ each (length boards.old) (but_for sender.at (moves line.at event)) (boards_of boards.old) }
 {
@@ -21,6 +22,7 @@ pub(crate) fn snoop(boards: &mut [Board], sender: BoardIndex, line: LineIndex, e
 }
 
 // A slot passes for every board.
+#[tactic(auto, using(crate::proofs::Loops::each_none, crate::proofs::Loops::each_all))]
 pub(crate) fn age(boards: &mut [Board])
     ensures { boards_of boards.new ≡ each (length boards.old) (λ c. ages) (boards_of boards.old) }
 {

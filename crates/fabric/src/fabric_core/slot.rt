@@ -161,15 +161,13 @@ impl<M: LineMemory> Core<M> {
     fn write_back(&mut self, board: BoardIndex) -> Did
         ensures { done result (view M.LineMemory self.new) ≡ writes_back board.at (view M.LineMemory self.old) (first_of (board_at (view M.LineMemory self.old) board.at).list) }
     {
-        match self.give_at(board) {
-            None => IDLE,
-            Some((line, word)) => {
-                self.write(line, word);
-                Did {
-                    deed: Deed::PutM,
-                    line: Some(line),
-                }
-            }
+        let Some((line, word)) = self.give_at(board) else {
+            return IDLE;
+        };
+        self.write(line, word);
+        Did {
+            deed: Deed::PutM,
+            line: Some(line),
         }
     }
 

@@ -55,13 +55,14 @@ impl<const N: usize> Queue<N> {
     pub(crate) fn is_first(&self, x: Index<N>) -> bool
         ensures { result ≡ is_first x.entry.at (row self.now) }
     {
-        self.len > 0 && self.items[0].at == x.at
+        self.len > 0 && self.items[0] == x
     }
 
     // The number at a place, oldest first, or none past the end.
     pub(crate) fn get(&self, at: usize) -> Option<usize>
         ensures { result ≡ place (row self.now) at }
     {
+        // Not by the slice's own `get`: with it the proof did not close.
         if at < self.len {
             Some(self.items[at].at)
         } else {

@@ -1,15 +1,12 @@
-use Rattle.std.proofs.Common.{length, sym, ap, ◌∙◌, arith}
+use Rattle.std.proofs.Common.{sym, ap, ◌∙◌, arith}
 use Rattle.std.proofs.lemmas.List.{set-get_or}
 use Rattle.rules.specs.Boards.{change, moves}
 use Rattle.rules.specs.Cells.{but_for}
 use Rattle.fabric.specs.Boards.{board_of, boards_of}
-use Rattle.fabric.proofs.Loops.{each_none, each_more, each_skip, each_all, each_out, but_own, but_other}
+use Rattle.fabric.proofs.Loops.{each_more, each_skip, each_out, but_own, but_other}
 use Rattle.fabric.proofs.Tables.{board_at_lem, boards_set}
 use Rattle.fabric.proofs.boards.snoop.Goals as goal
 use Rattle.fabric.proofs.boards.snoop.Goals.{then-number-sender, else-number-sender}
-
-pub loop-number-init : goal.loop-number-init
-loop-number-init c = each_none _ _
 
 pub loop-number-preserved : goal.loop-number-preserved
 loop-number-preserved c =
@@ -25,6 +22,3 @@ loop-number-preserved c =
       | else-number-sender w ↦
           ap boards_of (w.boards-is ∙ set-get_or c.loop-number.boards i c.index-boards-number.result) ∙ c.loop-number.invariant ∙ each_skip h bs i (sym (but_own c.args.sender.at g i (bs i) w.if-number-sender.false))
     ]
-
-pub returns : goal.returns
-returns c = c.loop-number.invariant ∙ each_all _ _ c.loop-number.number (length c.args.boards.now) c.loop-number-test.false (omega arith)
