@@ -16,7 +16,7 @@ use trace::word::MemoryKind;
 
 // What follows the first lines, on a schedule and a memory.
 fn list_on<S: Schedule + Drop, M: LineMemory + Drop>(
-    heap: Global,
+    alloc: Global,
     trace: &[u8],
     setup: &Setup,
     schedule: S,
@@ -26,11 +26,11 @@ fn list_on<S: Schedule + Drop, M: LineMemory + Drop>(
     ensures { OnOk result ((length trace.now ≤ 32768 → string_bytes out.new ≡ string_bytes out.old ++ listed setup.now.line (stand_from (M.LineMemory.words memory) (M.LineMemory.size memory) (S.Schedule.owners schedule) (S.Schedule.count schedule) (S.Schedule.span schedule)) (pieces 10 (drop setup.now.used trace.now)))) }
 {
     let mut replay = Replay::new(trace, setup, schedule, memory);
-    replay.finish(heap, out)
+    replay.finish(alloc, out)
 }
 
 fn list_flat<S: Schedule + Drop>(
-    heap: Global,
+    alloc: Global,
     trace: &[u8],
     setup: &Setup,
     schedule: S,
@@ -41,7 +41,7 @@ fn list_flat<S: Schedule + Drop>(
     let mut words = [0; 64];
     let lines = setup.lines();
     list_on(
-        heap,
+        alloc,
         trace,
         setup,
         schedule,
@@ -51,7 +51,7 @@ fn list_flat<S: Schedule + Drop>(
 }
 
 fn list_window<S: Schedule + Drop>(
-    heap: Global,
+    alloc: Global,
     trace: &[u8],
     setup: &Setup,
     schedule: S,
@@ -62,12 +62,12 @@ fn list_window<S: Schedule + Drop>(
     let mut words = [0; 64];
     let lines = setup.lines();
     let memory = Window::new(FlatMemory::over(&mut words), 64 - lines, lines);
-    list_on(heap, trace, setup, schedule, memory, out)
+    list_on(alloc, trace, setup, schedule, memory, out)
 }
 
 // Flat memory stands in for chained memory, which is still to come: the listing does not depend on the kind.
 fn list_rest<S: Schedule + Drop>(
-    heap: Global,
+    alloc: Global,
     trace: &[u8],
     setup: &Setup,
     schedule: S,
@@ -76,36 +76,36 @@ fn list_rest<S: Schedule + Drop>(
     ensures { OnOk result ((length trace.now ≤ 32768 → string_bytes out.new ≡ string_bytes out.old ++ listed setup.now.line (begun setup.now.lines (S.Schedule.count schedule) (S.Schedule.span schedule) (S.Schedule.owners schedule)) (pieces 10 (drop setup.now.used trace.now)))) }
 {
     match setup.kind() {
-        MemoryKind::Flat | MemoryKind::Chained => list_flat(heap, trace, setup, schedule, out),
-        MemoryKind::Window => list_window(heap, trace, setup, schedule, out),
+        MemoryKind::Flat | MemoryKind::Chained => list_flat(alloc, trace, setup, schedule, out),
+        MemoryKind::Window => list_window(alloc, trace, setup, schedule, out),
     }
 }
 
-fn list_setup(heap: Global, trace: &[u8], setup: &Setup, out: &mut String) -> Result<(), AllocError>
+fn list_setup(alloc: Global, trace: &[u8], setup: &Setup, out: &mut String) -> Result<(), AllocError>
     ensures { OnOk result ((length trace.now ≤ 32768 → string_bytes out.new ≡ string_bytes out.old ++ listed setup.now.line (standing setup.now) (pieces 10 (drop setup.now.used trace.now)))) }
 {
     match setup.schedule() {
-        BusSchedule::InTurn(round) => list_rest(heap, trace, setup, round, out),
-        BusSchedule::Listed(list) => list_rest(heap, trace, setup, list, out),
+        BusSchedule::InTurn(round) => list_rest(alloc, trace, setup, round, out),
+        BusSchedule::Listed(list) => list_rest(alloc, trace, setup, list, out),
     }
 }
 
-fn list_all(heap: Global, trace: &[u8]) -> Result<String, AllocError>
+fn list_all(alloc: Global, trace: &[u8]) -> Result<String, AllocError>
     ensures { IfOk result (λ s. string_bytes s ≡ listing trace.now) }
 {
-    let mut text = String::new(heap);
-    let Some(setup) = Setup::read(heap, trace, &mut text)? else {
+    let mut text = String::new(alloc);
+    let Some(setup) = Setup::read(alloc, trace, &mut text)? else {
         return Ok(text);
     };
-    list_setup(heap, trace, &setup, &mut text)?;
+    list_setup(alloc, trace, &setup, &mut text)?;
     Ok(text)
 }
 
 // The whole listing of a trace.
-pub fn list_trace(heap: Global, trace: &[u8]) -> Result<String, AllocError>
+pub fn list_trace(alloc: Global, trace: &[u8]) -> Result<String, AllocError>
     ensures text { IfOk result (λ s. string_bytes s ≡ listing trace.now) }
     ensures law { IfOk result (λ s. Stays trace.now (string_bytes s)) }
 {
-    let text = list_all(heap, trace)?;
+    let text = list_all(alloc, trace)?;
     Ok(text)
 }

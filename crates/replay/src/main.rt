@@ -25,10 +25,10 @@ fn play<S: Schedule + Drop, M: LineMemory + Drop>(
     schedule: S,
     memory: M,
 ) -> io::Result<()> {
-    let heap = rt.alloc();
+    let alloc = rt.alloc();
     let mut replay = Replay::new(trace, setup, schedule, memory);
-    let mut text = String::new(heap);
-    'lines: while replay.step(heap, &mut text)? {
+    let mut text = String::new(alloc);
+    'lines: while replay.step(alloc, &mut text)? {
         if text.len() >= CHUNK {
             rt.print(&text)?;
             text.clear();
@@ -65,11 +65,11 @@ fn play_on<S: Schedule + Drop>(
 }
 
 fn main(rt: HostRuntime) -> io::Result<()> {
-    let heap = rt.alloc();
-    let mut trace = Vec::new(heap);
+    let alloc = rt.alloc();
+    let mut trace = Vec::new(alloc);
     rt.stdin().take(ENOUGH).read_to_end(&mut trace)?;
-    let mut text = String::new(heap);
-    let Some(setup) = Setup::read(heap, trace.as_slice(), &mut text)? else {
+    let mut text = String::new(alloc);
+    let Some(setup) = Setup::read(alloc, trace.as_slice(), &mut text)? else {
         return rt.print(text);
     };
     match setup.schedule() {

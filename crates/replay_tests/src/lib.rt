@@ -87,9 +87,9 @@ mod tests {
         }
     }
 
-    fn lists(rt: &impl Abort, heap: Global, cases: &[(&str, &str)]) -> Result<(), Fail> {
+    fn lists(rt: &impl Abort, alloc: Global, cases: &[(&str, &str)]) -> Result<(), Fail> {
         for (trace, expected) in cases {
-            let text = list_trace(heap, trace.as_bytes())?;
+            let text = list_trace(alloc, trace.as_bytes())?;
             assert_eq!(rt; text.as_str(), *expected, "{}", *trace);
         }
         Ok(())
@@ -274,16 +274,16 @@ mod tests {
     }
 
     // `start`, and `piece` so many times.
-    fn repeated(heap: Global, start: &str, piece: &str, count: usize) -> Result<String, Fail> {
-        let mut text = String::from_str(heap, start)?;
+    fn repeated(alloc: Global, start: &str, piece: &str, count: usize) -> Result<String, Fail> {
+        let mut text = String::from_str(alloc, start)?;
         for _i in 0..count {
             text.push_str(piece)?;
         }
         Ok(text)
     }
 
-    fn ends(rt: &impl Abort, heap: Global, trace: &str, expected: &str) -> Result<(), Fail> {
-        let text = list_trace(heap, trace.as_bytes())?;
+    fn ends(rt: &impl Abort, alloc: Global, trace: &str, expected: &str) -> Result<(), Fail> {
+        let text = list_trace(alloc, trace.as_bytes())?;
         assert_eq!(rt; text.as_str(), expected);
         Ok(())
     }
@@ -291,15 +291,15 @@ mod tests {
     // The listing does not depend on the kind of memory.
     #[test]
     fn kinds_alike(rt: HostRuntime) -> Result<(), Fail> {
-        let heap = rt.alloc();
+        let alloc = rt.alloc();
         for first in ["F 3 5 A\n", "F 3 5 B\n", "F 3 5 C\n"] {
-            let mut trace = String::from_str(heap, first)?;
+            let mut trace = String::from_str(alloc, first)?;
             trace.push_str(
                 "S 0 4 11 0\nS 1 0 12 0\nL 2 4\nW 9\nC 0\nC 1\nC 2\nR 1 0\nW 3\nL 2 0\nL 0 4\nW 6\nC 2\nC 0\n",
             )?;
             ends(
                 &rt,
-                heap,
+                alloc,
                 trace.as_str(),
                 "S 0 4 wait\nS 1 0 wait\nL 2 4 wait\n0 0 GetM+ 4\n1 1 GetM+ 0\n2 2 GetS 4\n3 0 PutM 4\n4 1 idle -\n5 2 Data 4\n6 0 idle -\n7 1 idle -\n8 2 idle -\nC 0 11 1\nC 1 12 2\nC 2 11 6\nR 1 0 ok\n9 0 idle -\n10 1 PutM 0\n11 2 idle -\nL 2 0 wait\nL 0 4 hit 11\n12 0 idle -\n13 1 idle -\n14 2 GetS+ 0\n15 0 idle -\n16 1 idle -\n17 2 idle -\nC 2 12 3\nC 0 refused 12\n",
             )?;
@@ -309,35 +309,35 @@ mod tests {
 
     #[test]
     fn long_lines_and_lists(rt: HostRuntime) -> Result<(), Fail> {
-        let heap = rt.alloc();
+        let alloc = rt.alloc();
         // 200 bytes are a line, and 201 are not, whatever they are.
-        let mut line = repeated(heap, "W ", "9", 198)?;
+        let mut line = repeated(alloc, "W ", "9", 198)?;
         line.push_str("\n")?;
-        ends(&rt, heap, line.as_str(), "fault 1 2\n")?;
-        let mut line = repeated(heap, "W ", "9", 199)?;
+        ends(&rt, alloc, line.as_str(), "fault 1 2\n")?;
+        let mut line = repeated(alloc, "W ", "9", 199)?;
         line.push_str("\n")?;
-        ends(&rt, heap, line.as_str(), "fault 1 1\n")?;
-        let mut line = repeated(heap, "F 1 1 A\nW ", "9", 198)?;
+        ends(&rt, alloc, line.as_str(), "fault 1 1\n")?;
+        let mut line = repeated(alloc, "F 1 1 A\nW ", "9", 198)?;
         line.push_str("\n")?;
-        ends(&rt, heap, line.as_str(), "fault 2 5\n")?;
+        ends(&rt, alloc, line.as_str(), "fault 2 5\n")?;
         // 64 entries are a list, and 65 are not.
-        let mut list = repeated(heap, "F 1 1 A\nO", " 0", 64)?;
+        let mut list = repeated(alloc, "F 1 1 A\nO", " 0", 64)?;
         list.push_str("\nW 1\n")?;
-        ends(&rt, heap, list.as_str(), "0 0 idle -\n")?;
-        let mut list = repeated(heap, "F 1 1 A\nO", " 0", 65)?;
+        ends(&rt, alloc, list.as_str(), "0 0 idle -\n")?;
+        let mut list = repeated(alloc, "F 1 1 A\nO", " 0", 65)?;
         list.push_str("\nW 1\n")?;
-        ends(&rt, heap, list.as_str(), "fault 2 6 2\n")
+        ends(&rt, alloc, list.as_str(), "fault 2 6 2\n")
     }
 
     #[test]
     fn longest_traces(rt: HostRuntime) -> Result<(), Fail> {
-        let heap = rt.alloc();
+        let alloc = rt.alloc();
         // 8 bytes, and 32,760 of lines with a fault in the first.
-        let longest = repeated(heap, "F 1 1 A\n", "X\n", 16380)?;
+        let longest = repeated(alloc, "F 1 1 A\n", "X\n", 16380)?;
         assert_eq!(rt; longest.len(), 32768);
-        ends(&rt, heap, longest.as_str(), "fault 2 2\n")?;
-        let longer = repeated(heap, "F 1 1 A\n ", "X\n", 16380)?;
+        ends(&rt, alloc, longest.as_str(), "fault 2 2\n")?;
+        let longer = repeated(alloc, "F 1 1 A\n ", "X\n", 16380)?;
         assert_eq!(rt; longer.len(), 32769);
-        ends(&rt, heap, longer.as_str(), "fault 0 7\n")
+        ends(&rt, alloc, longer.as_str(), "fault 0 7\n")
     }
 }

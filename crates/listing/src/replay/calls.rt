@@ -67,7 +67,7 @@ impl<'a, S: Schedule, M: LineMemory> Replay<'a, S, M> {
     }
 
     // The next line of a trace that is being read, or its end.
-    fn read_line(&mut self, heap: Global, out: &mut String) -> Result<bool, AllocError>
+    fn read_line(&mut self, alloc: Global, out: &mut String) -> Result<bool, AllocError>
         requires { self.old.over ≡ false }
         ensures text { OnOk result (string_bytes out.new ≡ string_bytes out.old ++ piece S.Schedule M.LineMemory self.old) }
         ensures rest { OnOk result (coming S.Schedule M.LineMemory self.old ≡ piece S.Schedule M.LineMemory self.old ++ coming S.Schedule M.LineMemory self.new) }
@@ -82,7 +82,7 @@ impl<'a, S: Schedule, M: LineMemory> Replay<'a, S, M> {
         let number = self.line;
         self.rest = rest;
         self.line = number + 1;
-        match self.session.obey(heap, line, out) {
+        match self.session.obey(alloc, line, out) {
             Ok(()) => Ok(true),
             Err(fault) => {
                 self.fail(number, fault, out)?;
@@ -92,7 +92,7 @@ impl<'a, S: Schedule, M: LineMemory> Replay<'a, S, M> {
     }
 
     // Adds to the text what the next line of the trace prints; true where there may be more.
-    pub fn step(&mut self, heap: Global, out: &mut String) -> Result<bool, AllocError>
+    pub fn step(&mut self, alloc: Global, out: &mut String) -> Result<bool, AllocError>
         ensures text { OnOk result (string_bytes out.new ≡ string_bytes out.old ++ piece S.Schedule M.LineMemory self.old) }
         ensures rest { OnOk result (coming S.Schedule M.LineMemory self.old ≡ piece S.Schedule M.LineMemory self.old ++ coming S.Schedule M.LineMemory self.new) }
         ensures over { IfOk result (λ more. (more ≡ false → coming S.Schedule M.LineMemory self.new ≡ [])) }
@@ -101,14 +101,14 @@ impl<'a, S: Schedule, M: LineMemory> Replay<'a, S, M> {
         if self.over {
             return Ok(false);
         }
-        self.read_line(heap, out)
+        self.read_line(alloc, out)
     }
 
     // All that is still to print, added to the text.
-    pub fn finish(&mut self, heap: Global, out: &mut String) -> Result<(), AllocError>
+    pub fn finish(&mut self, alloc: Global, out: &mut String) -> Result<(), AllocError>
         ensures { OnOk result (string_bytes out.new ≡ string_bytes out.old ++ coming S.Schedule M.LineMemory self.old) }
     {
-        'lines: while self.step(heap, out)? {}
+        'lines: while self.step(alloc, out)? {}
         Ok(())
     }
 }

@@ -95,7 +95,7 @@ impl<S: Schedule, M: LineMemory> Session<S, M> {
         ensures after { OnOk result (stand_of S.Schedule M.LineMemory self.new ≡ after (slots count) (stand_of S.Schedule M.LineMemory self.old)) }
         ensures bound { self.new.slot ≤ self.old.slot + count }
     {
-        for i in 0..count {
+        for _ in 0..count {
             self.pass(out)?;
         }
         Ok(())
@@ -125,7 +125,7 @@ impl<S: Schedule, M: LineMemory> Session<S, M> {
     // Carries out a line, without its line end, and adds what it prints to the text.
     pub(crate) fn obey(
         &mut self,
-        heap: Global,
+        alloc: Global,
         line: &[u8],
         out: &mut String,
     ) -> Result<(), TraceFault>
@@ -133,7 +133,7 @@ impl<S: Schedule, M: LineMemory> Session<S, M> {
         ensures obeys { Obeyed result (call_order line.now) (stand_of S.Schedule M.LineMemory self.old) (stand_of S.Schedule M.LineMemory self.new) (string_bytes out.old) (string_bytes out.new) }
         ensures bound { self.new.slot ≤ self.old.slot + 65535 }
     {
-        let command = read_command(heap, line)?;
+        let command = read_command(alloc, line)?;
         Ok(self.carry_out(command, out)?)
     }
 }

@@ -41,11 +41,11 @@ fn slot_list(boards: usize, entries: &[u8]) -> Result<SlotList, LineFault>
     Ok(list)
 }
 
-fn open(heap: Global, line: &[u8]) -> Result<Opening, TraceFault>
+fn open(alloc: Global, line: &[u8]) -> Result<Opening, TraceFault>
     ensures value { Told setting_of result (settled (fabric_order line.now)) }
     ensures turn { IfOk result (λ o. round_owners o.round ≡ in_turn (round_count o.round)) }
 {
-    let asked = read_fabric(heap, line)?;
+    let asked = read_fabric(alloc, line)?;
     let round = round_robin(asked.boards)?;
     Ok(Opening {
         round,
@@ -54,10 +54,10 @@ fn open(heap: Global, line: &[u8]) -> Result<Opening, TraceFault>
     })
 }
 
-fn relist(heap: Global, boards: usize, line: &[u8]) -> Result<Option<SlotList>, TraceFault>
+fn relist(alloc: Global, boards: usize, line: &[u8]) -> Result<Option<SlotList>, TraceFault>
     ensures { Relisted boards result (list_settled boards (list_order line.now)) }
 {
-    let Some(entries) = read_list(heap, line)? else {
+    let Some(entries) = read_list(alloc, line)? else {
         return Ok(None);
     };
     let list = slot_list(boards, entries.as_slice())?;
@@ -103,7 +103,7 @@ fn in_list(opening: Opening, list: SlotList, used: usize) -> Setup
 }
 
 fn second(
-    heap: Global,
+    alloc: Global,
     opening: Opening,
     used: usize,
     rest: &[u8],
@@ -117,7 +117,7 @@ fn second(
     let Some(_) = after else {
         return Ok(Some(in_turn(opening, used)));
     };
-    match relist(heap, opening.round.boards(), line) {
+    match relist(alloc, opening.round.boards(), line) {
         Ok(found) => match found {
             None => Ok(Some(in_turn(opening, used))),
             Some(list) => Ok(Some(in_list(opening, list, used + line.len() + 1))),
@@ -141,7 +141,7 @@ fn write_unopened(last: &[u8], out: &mut String) -> Result<(), AllocError>
 
 impl Setup {
     // What the first lines of a trace set up; where there is a fault in them it is listed, and there is nothing more to list.
-    pub fn read(heap: Global, trace: &[u8], out: &mut String) -> Result<Option<Setup>, AllocError>
+    pub fn read(alloc: Global, trace: &[u8], out: &mut String) -> Result<Option<Setup>, AllocError>
         ensures { IfOk result (λ o. Begun o trace.now (string_bytes out.old) (string_bytes out.new)) }
     {
         if trace.len() > MAX_TRACE {
@@ -153,8 +153,8 @@ impl Setup {
             write_unopened(line, out)?;
             return Ok(None);
         };
-        match open(heap, line) {
-            Ok(opening) => second(heap, opening, line.len() + 1, rest, out),
+        match open(alloc, line) {
+            Ok(opening) => second(alloc, opening, line.len() + 1, rest, out),
             Err(fault) => {
                 stop(1, fault, out)?;
                 Ok(None)

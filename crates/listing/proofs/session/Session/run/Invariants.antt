@@ -3,5 +3,5 @@ use Rattle.listing.specs.Sessions.{stand_of}
 use Rattle.listing.proofs.Slots.{Along}
 use Rattle.listing.proofs.session.Session.run.Given as goal
 
-abbrev pub invariant-loop-i : goal.invariant-loop-i
-invariant-loop-i g l = Along l.count l.i (stand_of g.S.Schedule g.M.LineMemory l.initial.self) (stand_of g.S.Schedule g.M.LineMemory l.self) (string_bytes l.initial.out) (string_bytes l.out)
+abbrev pub invariant-loop : goal.invariant-loop
+invariant-loop g l = Along l.count l.counter (stand_of g.S.Schedule g.M.LineMemory l.initial.self) (stand_of g.S.Schedule g.M.LineMemory l.self) (string_bytes l.initial.out) (string_bytes l.out)
