@@ -1,11 +1,15 @@
 -- The lines of a listing.
 use Rattle.std.specs.Prelude.{ℕ, List, ◌++◌, codes, decimal}
+use Rattle.rules.specs.Words as rules
+use Rattle.rules.specs.Words.{deed_word}
 use Rattle.schedule.specs.Numbers.{number}
 use Rattle.trace.specs.Faults.{cause}
 use Rattle.trace.specs.declared.fault.LineFault.{LineFault}
 use Rattle.trace.specs.declared.fault.LineFault.TheVariants.{NoLineEnd, Letter, WordCount, NotANumber, OutOfField, Schedule}
 use Rattle.listing.specs.declared.lines.CallLetter.{CallLetter}
 use Rattle.listing.specs.declared.lines.CallLetter.TheVariants.{Load, Store, Replace, Guard, Collect}
+use Rattle.listing.specs.declared.lines.Line.{Line}
+use Rattle.listing.specs.declared.lines.Line.TheVariants.{Idle, Done, Wait, Hit, Replaced, Guarded, Collected, Refused, Fault, TooLong}
 
 -- A slot in which nothing is done.
 abbrev pub idle_line : ℕ → ℕ → List ℕ
@@ -59,3 +63,16 @@ fault_line n f = codes "fault " ++ (decimal n ++ (codes " " ++ (decimal (cause f
 -- A trace that is too long to be read.
 abbrev pub too_long : List ℕ
 too_long = codes "fault 0 7\n"
+
+-- The text of a line.
+abbrev pub line_text : Line → List ℕ
+line_text (Idle slot owner) = idle_line slot owner
+line_text (Done slot owner deed line) = slot_line slot owner (deed_word deed) line
+line_text (Wait call board line) = wait_line call board line
+line_text (Hit call board line word) = hit_line call board line word
+line_text (Replaced board line) = replaced_line board line
+line_text (Guarded line) = guarded_line line
+line_text (Collected board word waited) = collected_line board word waited
+line_text (Refused call first refusal) = refused_line call first (rules.number refusal)
+line_text (Fault line fault) = fault_line line fault
+line_text TooLong = too_long

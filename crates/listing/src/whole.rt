@@ -81,7 +81,12 @@ fn list_rest<S: Schedule + Drop>(
     }
 }
 
-fn list_setup(alloc: Global, trace: &[u8], setup: &Setup, out: &mut String) -> Result<(), AllocError>
+fn list_setup(
+    alloc: Global,
+    trace: &[u8],
+    setup: &Setup,
+    out: &mut String,
+) -> Result<(), AllocError>
     ensures { OnOk result ((length trace.now ≤ 32768 → string_bytes out.new ≡ string_bytes out.old ++ listed setup.now.line (standing setup.now) (pieces 10 (drop setup.now.used trace.now)))) }
 {
     match setup.schedule() {

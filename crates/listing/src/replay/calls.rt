@@ -6,7 +6,7 @@ ghost use Rattle.listing.specs.Listing.{ending, listed};
 ghost use Rattle.listing.specs.Replays.{coming, piece, unread};
 ghost use Rattle.listing.specs.Sessions.{Stopped};
 
-use crate::lines::write_fault;
+use crate::lines::Line;
 use crate::replay::Replay;
 use crate::session::Session;
 use crate::setup::Setup;
@@ -14,6 +14,7 @@ use crate::setup::reading::{MAX_TRACE, stop};
 use memory::interface::LineMemory;
 use schedule::Schedule;
 use std::alloc::{AllocError, Global};
+use std::fmt::Write;
 use trace::fault::{LineFault, TraceFault};
 use trace::text::cut;
 
@@ -54,7 +55,11 @@ impl<'a, S: Schedule, M: LineMemory> Replay<'a, S, M> {
         if last.is_empty() {
             return Ok(());
         }
-        write_fault(out, self.line, LineFault::NoLineEnd)
+        let line = Line::Fault {
+            line: self.line,
+            fault: LineFault::NoLineEnd,
+        };
+        write!(out, "{line}")
     }
 
     // Ends with the fault of a line.

@@ -4,17 +4,18 @@ ghost use Rattle.trace.specs.Commands.{call_order, collect, guard, load, meaning
 ghost use Rattle.rules.specs.Calls.{says, slot};
 ghost use Rattle.listing.specs.Answers.{slot_text};
 ghost use Rattle.listing.specs.Beginnings.{stand_from};
+ghost use Rattle.listing.specs.Lines.{line_text};
 ghost use Rattle.listing.specs.Listing.{after, passed, printed, slot_lines, ran};
 ghost use Rattle.listing.specs.Sessions.{Obeyed, stand_of};
 
-use crate::lines::{
-    CallLetter, write_collect, write_guard, write_replace, write_reply, write_report,
-};
+use crate::lines::{CallLetter, Line};
 use crate::session::Session;
+use fabric::answer::{Collected, SlotReport};
 use fabric::fabric::Fabric;
 use memory::interface::LineMemory;
 use schedule::Schedule;
 use std::alloc::{AllocError, Global};
+use std::fmt::Write;
 use trace::command::{Command, read_command};
 use trace::fault::TraceFault;
 
@@ -30,62 +31,86 @@ impl<S: Schedule, M: LineMemory> Session<S, M> {
         }
     }
 
-    fn load(&mut self, board: u8, line: u8, out: &mut String) -> Result<(), AllocError>
-        ensures text { OnOk result (string_bytes out.new ≡ string_bytes out.old ++ printed (load board line) (stand_of S.Schedule M.LineMemory self.old)) }
+    fn load(&mut self, board: u8, line: u8) -> Line
+        ensures text { line_text result ≡ printed (load board line) (stand_of S.Schedule M.LineMemory self.old) }
         ensures after { stand_of S.Schedule M.LineMemory self.new ≡ after (load board line) (stand_of S.Schedule M.LineMemory self.old) }
     {
         let answer = self.fabric.load(board as usize, line as usize);
-        write_reply(out, CallLetter::Load, board, line, answer)
+        Line::of_reply(CallLetter::Load, board, line, answer)
     }
 
-    fn store(
-        &mut self,
-        board: u8,
-        line: u8,
-        word: u64,
-        key: u16,
-        out: &mut String,
-    ) -> Result<(), AllocError>
-        ensures text { OnOk result (string_bytes out.new ≡ string_bytes out.old ++ printed (store board line word key) (stand_of S.Schedule M.LineMemory self.old)) }
+    fn store(&mut self, board: u8, line: u8, word: u64, key: u16) -> Line
+        ensures text { line_text result ≡ printed (store board line word key) (stand_of S.Schedule M.LineMemory self.old) }
         ensures after { stand_of S.Schedule M.LineMemory self.new ≡ after (store board line word key) (stand_of S.Schedule M.LineMemory self.old) }
     {
         let answer = self.fabric.store(board as usize, line as usize, word, key);
-        write_reply(out, CallLetter::Store, board, line, answer)
+        Line::of_reply(CallLetter::Store, board, line, answer)
     }
 
-    fn replace(&mut self, board: u8, line: u8, out: &mut String) -> Result<(), AllocError>
-        ensures text { OnOk result (string_bytes out.new ≡ string_bytes out.old ++ printed (replace board line) (stand_of S.Schedule M.LineMemory self.old)) }
+    fn replace(&mut self, board: u8, line: u8) -> Line
+        ensures text { line_text result ≡ printed (replace board line) (stand_of S.Schedule M.LineMemory self.old) }
         ensures after { stand_of S.Schedule M.LineMemory self.new ≡ after (replace board line) (stand_of S.Schedule M.LineMemory self.old) }
     {
-        let answer = self.fabric.replace(board as usize, line as usize);
-        write_replace(out, board, line, answer)
+        match self.fabric.replace(board as usize, line as usize) {
+            Ok(()) => Line::Replaced { board, line },
+            Err(refusal) => Line::Refused {
+                call: CallLetter::Replace,
+                first: board,
+                refusal,
+            },
+        }
     }
 
-    fn guard(&mut self, line: u8, old: u16, new: u16, out: &mut String) -> Result<(), AllocError>
-        ensures text { OnOk result (string_bytes out.new ≡ string_bytes out.old ++ printed (guard line old new) (stand_of S.Schedule M.LineMemory self.old)) }
+    fn guard(&mut self, line: u8, old: u16, new: u16) -> Line
+        ensures text { line_text result ≡ printed (guard line old new) (stand_of S.Schedule M.LineMemory self.old) }
         ensures after { stand_of S.Schedule M.LineMemory self.new ≡ after (guard line old new) (stand_of S.Schedule M.LineMemory self.old) }
     {
-        let answer = self.fabric.guard(line as usize, old, new);
-        write_guard(out, line, answer)
+        match self.fabric.guard(line as usize, old, new) {
+            Ok(()) => Line::Guarded { line },
+            Err(refusal) => Line::Refused {
+                call: CallLetter::Guard,
+                first: line,
+                refusal,
+            },
+        }
     }
 
-    fn collect(&mut self, board: u8, out: &mut String) -> Result<(), AllocError>
-        ensures text { OnOk result (string_bytes out.new ≡ string_bytes out.old ++ printed (collect board) (stand_of S.Schedule M.LineMemory self.old)) }
+    fn collect(&mut self, board: u8) -> Line
+        ensures text { line_text result ≡ printed (collect board) (stand_of S.Schedule M.LineMemory self.old) }
         ensures after { stand_of S.Schedule M.LineMemory self.new ≡ after (collect board) (stand_of S.Schedule M.LineMemory self.old) }
     {
-        let answer = self.fabric.collect(board as usize);
-        write_collect(out, board, answer)
+        match self.fabric.collect(board as usize) {
+            Ok(Collected { word, waited }) => Line::Collected {
+                board,
+                word,
+                waited,
+            },
+            Err(refusal) => Line::Refused {
+                call: CallLetter::Collect,
+                first: board,
+                refusal,
+            },
+        }
     }
 
-    fn pass(&mut self, out: &mut String) -> Result<(), AllocError>
+    // What happens in the next slot.
+    fn pass(&mut self) -> Line
         requires { self.old.slot + 1 < 2 ^ 64 }
-        ensures text { OnOk result (string_bytes out.new ≡ string_bytes out.old ++ slot_text self.old.slot (says slot (stand_of S.Schedule M.LineMemory self.old).world)) }
+        ensures text { line_text result ≡ slot_text self.old.slot (says slot (stand_of S.Schedule M.LineMemory self.old).world) }
         ensures after { stand_of S.Schedule M.LineMemory self.new ≡ passed (stand_of S.Schedule M.LineMemory self.old) }
     {
-        let number = self.slot;
-        self.slot = number + 1;
-        let report = self.fabric.slot();
-        write_report(out, number, report)
+        let slot = self.slot;
+        self.slot = slot + 1;
+        let SlotReport { owner, deed, line } = self.fabric.slot();
+        match line {
+            None => Line::Idle { slot, owner },
+            Some(line) => Line::Done {
+                slot,
+                owner,
+                deed,
+                line,
+            },
+        }
     }
 
     // So many slots, a line of the listing for each.
@@ -96,7 +121,8 @@ impl<S: Schedule, M: LineMemory> Session<S, M> {
         ensures bound { self.new.slot ≤ self.old.slot + count }
     {
         for _ in 0..count {
-            self.pass(out)?;
+            let line = self.pass();
+            write!(out, "{line}")?;
         }
         Ok(())
     }
@@ -107,19 +133,20 @@ impl<S: Schedule, M: LineMemory> Session<S, M> {
         ensures after { OnOk result (stand_of S.Schedule M.LineMemory self.new ≡ after (meaning command) (stand_of S.Schedule M.LineMemory self.old)) }
         ensures bound { self.new.slot ≤ self.old.slot + 65535 }
     {
-        match command {
-            Command::Load { board, line } => self.load(board, line, out),
+        let line = match command {
+            Command::Load { board, line } => self.load(board, line),
             Command::Store {
                 board,
                 line,
                 word,
                 key,
-            } => self.store(board, line, word, key, out),
-            Command::Replace { board, line } => self.replace(board, line, out),
-            Command::Guard { line, old, new } => self.guard(line, old, new, out),
-            Command::Collect { board } => self.collect(board, out),
-            Command::Slots { count } => self.run(count, out),
-        }
+            } => self.store(board, line, word, key),
+            Command::Replace { board, line } => self.replace(board, line),
+            Command::Guard { line, old, new } => self.guard(line, old, new),
+            Command::Collect { board } => self.collect(board),
+            Command::Slots { count } => return self.run(count, out),
+        };
+        write!(out, "{line}")
     }
 
     // Carries out a line, without its line end, and adds what it prints to the text.

@@ -7,17 +7,19 @@ ghost use Rattle.trace.specs.Faults.{Told};
 ghost use Rattle.schedule.specs.Meanings.{list_count, list_owners, list_span, round_count, round_owners};
 ghost use Rattle.schedule.specs.Rows.{in_turn};
 ghost use Rattle.listing.specs.Beginnings.{Begun, FromSecond, standing};
+ghost use Rattle.listing.specs.Lines.{line_text};
 ghost use Rattle.listing.specs.Listing.{begun, list_settled, settled, unopened};
 ghost use Rattle.listing.specs.Sessions.{Stopped};
 ghost use Rattle.listing.specs.Setups.{Listed, Relisted, Turned, setting_of};
 
 use crate::bus::BusSchedule;
-use crate::lines::{write_fault, write_too_long};
+use crate::lines::Line;
 use crate::setup::{Opening, Setup};
 use schedule::Schedule;
 use schedule::round_robin::RoundRobin;
 use schedule::slot_list::SlotList;
 use std::alloc::{AllocError, Global};
+use std::fmt::Write;
 use trace::command::{read_fabric, read_list};
 use trace::fault::{LineFault, TraceFault};
 use trace::text::cut;
@@ -69,7 +71,10 @@ pub(crate) fn stop(line: u32, fault: TraceFault, out: &mut String) -> Result<(),
     ensures { OnOk result (Stopped fault line (string_bytes out.old) (string_bytes out.new)) }
 {
     match fault {
-        TraceFault::Line(fault) => write_fault(out, line, fault),
+        TraceFault::Line(fault) => {
+            let line = Line::Fault { line, fault };
+            write!(out, "{line}")
+        }
         TraceFault::OutOfMemory => Err(AllocError),
     }
 }
@@ -129,14 +134,16 @@ fn second(
     }
 }
 
-// A trace that has no whole line.
-fn write_unopened(last: &[u8], out: &mut String) -> Result<(), AllocError>
-    ensures { OnOk result (string_bytes out.new ≡ string_bytes out.old ++ unopened last.now) }
+// The fault of a trace that has no whole line.
+fn unopened(last: &[u8]) -> Line
+    ensures { line_text result ≡ unopened last.now }
 {
-    if last.is_empty() {
-        return write_fault(out, 1, LineFault::Letter);
-    }
-    write_fault(out, 1, LineFault::NoLineEnd)
+    let fault = if last.is_empty() {
+        LineFault::Letter
+    } else {
+        LineFault::NoLineEnd
+    };
+    Line::Fault { line: 1, fault }
 }
 
 impl Setup {
@@ -145,12 +152,14 @@ impl Setup {
         ensures { IfOk result (λ o. Begun o trace.now (string_bytes out.old) (string_bytes out.new)) }
     {
         if trace.len() > MAX_TRACE {
-            write_too_long(out)?;
+            let line = Line::TooLong;
+            write!(out, "{line}")?;
             return Ok(None);
         }
         let (line, after) = cut(trace, b'\n');
         let Some(rest) = after else {
-            write_unopened(line, out)?;
+            let line = unopened(line);
+            write!(out, "{line}")?;
             return Ok(None);
         };
         match open(alloc, line) {

@@ -1,4 +1,4 @@
-use Rattle.std.proofs.Common.{◌+◌, ◌++◌, length, string_bytes, sym, ap, ◌∙◌, arith}
+use Rattle.std.proofs.Common.{◌≡◌, ◌+◌, ◌++◌, length, string_bytes, sym, ap, ◌∙◌, arith, rules}
 use Rattle.std.specs.Option.{option_map}
 use Rattle.trace.specs.Commands.{fabric_order}
 use Rattle.trace.specs.Pieces.{pieces, rejoined}
@@ -12,7 +12,8 @@ returns-in_default c =
     let trace = c.args.trace.now in
     let t = string_bytes c.args.out.now in
     let none = sym c.cut.ensures.rest ∙ ap (option_map (λ x. x.now)) c.in_default.is in
-    c.in_ok-write_unopened.ensures ∙ ap (λ p. t ++ unopened p) c.cut.ensures.first
+    let told : string_bytes c.write-in_default.new.self ≡ t ++ unopened c.cut.result.0.now = search rules in
+    told ∙ ap (λ p. t ++ unopened p) c.cut.ensures.first
     ∙ sym (ap (λ x. t ++ x) (few_first trace c.if-trace-gt-MAX_TRACE.false ∙ first_last trace none))
 
 pub second-requires : goal.second-requires
