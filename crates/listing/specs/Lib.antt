@@ -1,4 +1,5 @@
 pub mod Bus
+pub mod Memories
 pub mod Lines
 pub mod Answers
 pub mod Listing

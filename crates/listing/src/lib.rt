@@ -6,4 +6,5 @@ mod lines;
 pub mod replay;
 pub mod session;
 pub mod setup;
+pub mod trace_memory;
 pub mod whole;

@@ -1,5 +1,5 @@
 use Rattle.listing.specs.Replays.{unread}
-use Rattle.replay.proofs.play.Given as goal
+use Rattle.replay.proofs.main.Given as goal
 
 abbrev pub decreases-lines : goal.decreases-lines
-decreases-lines g l = unread l.replay
+decreases-lines l = unread l.replay
