@@ -20,16 +20,16 @@ fn main(rt: HostRuntime) -> io::Result<()> {
     let trace = trace.as_slice();
     let mut text = String::new(alloc);
     let Some(setup) = Setup::read(alloc, trace, &mut text)? else {
-        return rt.print(text);
+        return rt.write_all(text.as_bytes());
     };
     let mut words = [0; 64];
     let memory = TraceMemory::over(&mut words, setup.lines(), setup.kind());
     let mut replay = Replay::new(trace, &setup, setup.schedule(), memory);
     'lines: while replay.step(alloc, &mut text)? {
         if text.len() >= CHUNK {
-            rt.print(&text)?;
+            rt.write_all(text.as_bytes())?;
             text.clear();
         }
     }
-    rt.print(text)
+    rt.write_all(text.as_bytes())
 }
