@@ -9,6 +9,7 @@ mod tests {
     use schedule::round_robin::RoundRobin;
     use schedule::slot_list::SlotList;
     use std::alloc::Global;
+    use std::array;
     use std::process::Abort;
     use std::test::Fail;
 
@@ -24,24 +25,19 @@ mod tests {
         assert!(rt; RoundRobin::new(0).is_err());
         assert!(rt; RoundRobin::new(17).is_err());
         assert!(rt; RoundRobin::new(usize::MAX).is_err());
-        if let Ok(mut one) = RoundRobin::new(1) {
-            assert_eq!(rt; one.period(), 1);
-            owners(&rt, &mut one, &[0, 0, 0]);
-        }
-        let Ok(mut three) = RoundRobin::new(3) else {
-            return Err(Fail::new("three boards"));
-        };
+        let mut one = RoundRobin::new(1)?;
+        assert_eq!(rt; one.period(), 1);
+        owners(&rt, &mut one, &[0, 0, 0]);
+        let mut three = RoundRobin::new(3)?;
         owners(&rt, &mut three, &[0, 1, 2, 0, 1, 2, 0]);
-        let Ok(sixteen) = RoundRobin::new(16) else {
-            return Err(Fail::new("sixteen boards"));
-        };
+        let sixteen = RoundRobin::new(16)?;
         assert_eq!(rt; sixteen.boards(), 16);
         assert_eq!(rt; sixteen.period(), 16);
         Ok(())
     }
 
     #[test]
-    fn slot_lists(rt: HostRuntime) -> Result<(), Fail> {
+    fn slot_lists(rt: HostRuntime) {
         let mut list = SlotList::board_zero();
         assert_eq!(rt; list.boards(), 1);
         owners(&rt, &mut list, &[0, 0]);
@@ -58,23 +54,15 @@ mod tests {
             (list.replace(3, &[0, 1, 0]), 4),
         ];
         for (answer, number) in refused {
-            let Err(refusal) = answer else {
-                return Err(Fail::new("accepted"));
-            };
-            assert_eq!(rt; refusal.number(), number);
+            assert_eq!(rt; answer.map_err(ScheduleRefusal::number), Err(number));
         }
         // A refusal leaves the list where it was.
         owners(&rt, &mut list, &[0, 2, 0, 1]);
-        Ok(())
     }
 
     // Boards 0 to 15, four times.
     fn four_rounds() -> [u8; 64] {
-        let mut entries = [0; 64];
-        for i in 0..64 {
-            entries[i] = (i % 16) as u8;
-        }
-        entries
+        array::from_fn(|i| (i % 16) as u8)
     }
 
     #[test]
@@ -87,10 +75,15 @@ mod tests {
         }
     }
 
+    fn ends(rt: &impl Abort, alloc: Global, trace: &str, expected: &str) -> Result<(), Fail> {
+        let text = list_trace(alloc, trace.as_bytes())?;
+        assert_eq!(rt; text.as_str(), expected, "{trace}");
+        Ok(())
+    }
+
     fn lists(rt: &impl Abort, alloc: Global, cases: &[(&str, &str)]) -> Result<(), Fail> {
         for (trace, expected) in cases {
-            let text = list_trace(alloc, trace.as_bytes())?;
-            assert_eq!(rt; text.as_str(), *expected, "{}", *trace);
+            ends(rt, alloc, trace, expected)?;
         }
         Ok(())
     }
@@ -273,29 +266,13 @@ mod tests {
         lists(&rt, rt.alloc(), &cases)
     }
 
-    // `start`, and `piece` so many times.
-    fn repeated(alloc: Global, start: &str, piece: &str, count: usize) -> Result<String, Fail> {
-        let mut text = String::from_str(alloc, start)?;
-        for _i in 0..count {
-            text.push_str(piece)?;
-        }
-        Ok(text)
-    }
-
-    fn ends(rt: &impl Abort, alloc: Global, trace: &str, expected: &str) -> Result<(), Fail> {
-        let text = list_trace(alloc, trace.as_bytes())?;
-        assert_eq!(rt; text.as_str(), expected);
-        Ok(())
-    }
-
     // The listing does not depend on the kind of memory.
     #[test]
     fn kinds_alike(rt: HostRuntime) -> Result<(), Fail> {
         let alloc = rt.alloc();
         for first in ["F 3 5 A\n", "F 3 5 B\n", "F 3 5 C\n"] {
-            let mut trace = String::from_str(alloc, first)?;
-            trace.push_str(
-                "S 0 4 11 0\nS 1 0 12 0\nL 2 4\nW 9\nC 0\nC 1\nC 2\nR 1 0\nW 3\nL 2 0\nL 0 4\nW 6\nC 2\nC 0\n",
+            let trace = format!(in alloc;
+                "{first}S 0 4 11 0\nS 1 0 12 0\nL 2 4\nW 9\nC 0\nC 1\nC 2\nR 1 0\nW 3\nL 2 0\nL 0 4\nW 6\nC 2\nC 0\n",
             )?;
             ends(
                 &rt,
@@ -311,21 +288,18 @@ mod tests {
     fn long_lines_and_lists(rt: HostRuntime) -> Result<(), Fail> {
         let alloc = rt.alloc();
         // 200 bytes are a line, and 201 are not, whatever they are.
-        let mut line = repeated(alloc, "W ", "9", 198)?;
-        line.push_str("\n")?;
+        let nines = "9".repeat(alloc, 198)?;
+        let line = format!(in alloc; "W {nines}\n")?;
         ends(&rt, alloc, line.as_str(), "fault 1 2\n")?;
-        let mut line = repeated(alloc, "W ", "9", 199)?;
-        line.push_str("\n")?;
+        let line = format!(in alloc; "W {nines}9\n")?;
         ends(&rt, alloc, line.as_str(), "fault 1 1\n")?;
-        let mut line = repeated(alloc, "F 1 1 A\nW ", "9", 198)?;
-        line.push_str("\n")?;
+        let line = format!(in alloc; "F 1 1 A\nW {nines}\n")?;
         ends(&rt, alloc, line.as_str(), "fault 2 5\n")?;
         // 64 entries are a list, and 65 are not.
-        let mut list = repeated(alloc, "F 1 1 A\nO", " 0", 64)?;
-        list.push_str("\nW 1\n")?;
+        let zeros = " 0".repeat(alloc, 64)?;
+        let list = format!(in alloc; "F 1 1 A\nO{zeros}\nW 1\n")?;
         ends(&rt, alloc, list.as_str(), "0 0 idle -\n")?;
-        let mut list = repeated(alloc, "F 1 1 A\nO", " 0", 65)?;
-        list.push_str("\nW 1\n")?;
+        let list = format!(in alloc; "F 1 1 A\nO{zeros} 0\nW 1\n")?;
         ends(&rt, alloc, list.as_str(), "fault 2 6 2\n")
     }
 
@@ -333,10 +307,11 @@ mod tests {
     fn longest_traces(rt: HostRuntime) -> Result<(), Fail> {
         let alloc = rt.alloc();
         // 8 bytes, and 32,760 of lines with a fault in the first.
-        let longest = repeated(alloc, "F 1 1 A\n", "X\n", 16380)?;
+        let lines = "X\n".repeat(alloc, 16380)?;
+        let longest = format!(in alloc; "F 1 1 A\n{lines}")?;
         assert_eq!(rt; longest.len(), 32768);
         ends(&rt, alloc, longest.as_str(), "fault 2 2\n")?;
-        let longer = repeated(alloc, "F 1 1 A\n ", "X\n", 16380)?;
+        let longer = format!(in alloc; "F 1 1 A\n {lines}")?;
         assert_eq!(rt; longer.len(), 32769);
         ends(&rt, alloc, longer.as_str(), "fault 0 7\n")
     }
