@@ -1,9 +1,8 @@
 -- The first lines of a trace, one cut at a time.
-use Rattle.std.proofs.Common.{◌≡◌, ℕ, ◌+◌, ◌≤◌, List, [], ◌∷◌, ◌++◌, length, drop, IfOk, Some, None, Ok, Err, Option, Result, sym, ap, ◌∙◌, append_assoc, arith, length-append}
+use Rattle.std.proofs.Common.{◌≡◌, ℕ, ◌+◌, ◌≤◌, List, [], ◌∷◌, ◌++◌, length, drop, Some, None, Ok, Err, Option, Result, sym, ap, ◌∙◌, append_assoc, arith, length-append}
 use Rattle.std.proofs.lemmas.List.{drop_at, drop-drop}
 use Rattle.std.proofs.lemmas.Bool.{cond-false, le-ltb}
-use Rattle.std.specs.declared.alloc.AllocError.{AllocError}
-use Rattle.schedule.specs.Meanings.{Means, round_count, list_count, list_owners, list_span}
+use Rattle.schedule.specs.Meanings.{Means, list_count, list_owners, list_span}
 use Rattle.schedule.specs.Rows.{in_turn}
 use Rattle.schedule.specs.declared.slot_list.SlotList.{SlotList}
 use Rattle.trace.specs.Commands.{Setting, fabric_order, list_order}
@@ -14,9 +13,9 @@ use Rattle.trace.specs.declared.fault.TraceFault.{TraceFault}
 use Rattle.trace.specs.declared.fault.TraceFault.TheVariants.{Line, OutOfMemory}
 use Rattle.trace.proofs.Cuts.{pieces_cut, pieces_after}
 use Rattle.listing.specs.Listing.{Stand, begun, first, from_first, from_second, list_settled, listed, listing, second, settled, unopened}
-use Rattle.listing.specs.Beginnings.{Begun, FromSecond, standing}
+use Rattle.listing.specs.Beginnings.{FromSecond, Opened, standing}
 use Rattle.listing.specs.Setups.{Relisted}
-use Rattle.listing.specs.declared.setup.Opening.{Opening}
+use Rattle.listing.specs.Bus.{bus_count}
 use Rattle.listing.specs.declared.setup.Setup.{Setup}
 use Rattle.listing.specs.Sessions.{Stopped}
 
@@ -71,22 +70,23 @@ module _ (n l : ℕ) (rest line more : List ℕ) (is : line ≡ before 10 rest) 
   second_listed b eb s bs h m =
       second_at b eb (Ok (Some bs)) h ∙ sym (λ i. listed 3 (begun l ((m.count ∙ eb) i) (m.span i) (m.owners i)) (pieces 10 more))
 
-  pub second_stopped : (b : ℕ) → b ≡ n → (f : TraceFault) (t t' : List ℕ) → Relisted b (Err f) (list_settled b (list_order line)) → Stopped f 2 t t' → t' ≡ t ++ from_second n l (pieces 10 rest)
-  second_stopped b eb (Line g) t t' told w = w ∙ sym (ap (λ x. t ++ x) (second_at b eb (Err g) told))
-  second_stopped b eb OutOfMemory t t' told w = absurd w
+-- The setup of the first line alone.
+pub stands : (o : Setup) (ps : List (List ℕ)) → Opened o → listed 2 (begun o.lines (bus_count o.schedule) (bus_count o.schedule) (in_turn (bus_count o.schedule))) ps ≡ listed o.line (standing o) ps
+stands o ps h = (λ i. listed (sym h.1 i) (sym h.0 i) ps)
 
--- The stand of a setup in the place of the one that is told.
-pub stands : (l n : ℕ) (own : ℕ → ℕ) (line : ℕ) (st : Stand) (ps : List (List ℕ)) → st ≡ begun l n n own → own ≡ in_turn n → line ≡ 2 → listed 2 (begun l n n (in_turn n)) ps ≡ listed line st ps
-stands l n own line st ps es eo el = (λ i. listed (sym el i) (sym (es ∙ ap (begun l n n) eo) i) ps)
+pub second_faulty : (o : Setup) (rest line more : List ℕ) → line ≡ before 10 rest → after 10 rest ≡ Some more → (b : ℕ) → b ≡ bus_count o.schedule → (f : TraceFault) → Relisted b (Err f) (list_settled b (list_order line)) → FromSecond (Err f) o rest
+second_faulty o rest line more is some b eb (Line g) told = second_at (bus_count o.schedule) o.lines rest line more is some b eb (Err g) told
+second_faulty o rest line more is some b eb OutOfMemory told = tt
+
+-- A fault of the second line.
+pub second_stopped : (f : TraceFault) (o : Setup) (rest t t' : List ℕ) → FromSecond (Err f) o rest → Stopped f 2 t t' → t' ≡ t ++ from_second (bus_count o.schedule) o.lines (pieces 10 rest)
+second_stopped (Line g) o rest t t' told w = w ∙ sym (ap (λ x. t ++ x) told)
+second_stopped OutOfMemory o rest t t' told w = absurd w
 
 pub few_first : (s : List ℕ) → length s ≤ 32768 → listing s ≡ from_first (pieces 10 s)
 few_first s h = cond-false _ _ _ (le-ltb 32768 (length s) h)
 
-pub begun_from : (r : Result (Option Setup) AllocError) (o : Opening) (used : ℕ) (trace rest t t' : List ℕ) → IfOk r (λ x. FromSecond x o used rest t t')
-    → listing trace ≡ from_second (round_count o.round) o.lines (pieces 10 rest) → drop used trace ≡ rest → length trace ≤ 32768 → IfOk r (λ x. Begun x trace t t')
-begun_from (Err e) o used trace rest t t' h whole cut few = tt
-begun_from (Ok None) o used trace rest t t' h whole cut few = h ∙ sym (ap (λ x. t ++ x) whole)
-begun_from (Ok (Some s)) o used trace rest t t' h whole cut few =
-    let k = h.1.0 in
-    let same : drop k rest ≡ drop s.used trace = ap (drop k) (sym cut) ∙ drop-drop k used trace ∙ ap (λ m. drop m trace) (sym h.1.1) in
-    (h.0, few, whole ∙ h.1.2 ∙ ap (λ x. listed s.line (standing s) (pieces 10 x)) same)
+pub begun_from : (s o : Setup) (trace rest : List ℕ) → FromSecond (Ok s) o rest → listing trace ≡ from_second (bus_count o.schedule) o.lines (pieces 10 rest) → drop o.used trace ≡ rest → listing trace ≡ listed s.line (standing s) (pieces 10 (drop s.used trace))
+begun_from s o trace rest h whole cut =
+    let same : drop h.0 rest ≡ drop s.used trace = ap (drop h.0) (sym cut) ∙ drop-drop h.0 o.used trace ∙ ap (λ m. drop m trace) (sym h.1) in
+    whole ∙ h.2 ∙ ap (λ x. listed s.line (standing s) (pieces 10 x)) same

@@ -9,7 +9,8 @@ use Rattle.trace.specs.Commands.{Setting}
 use Rattle.trace.specs.declared.fault.LineFault.{LineFault}
 use Rattle.trace.specs.declared.fault.TraceFault.{TraceFault}
 use Rattle.trace.specs.declared.fault.TraceFault.TheVariants.{Line, OutOfMemory}
-use Rattle.listing.specs.declared.setup.Opening.{Opening}
+use Rattle.listing.specs.Bus.{bus_count}
+use Rattle.listing.specs.declared.setup.Setup.{Setup}
 use Rattle.trace.specs.declared.fault.LineFault.TheVariants.{Schedule, NoLineEnd, Letter, WordCount, NotANumber, OutOfField}
 
 -- A round robin, or why there is none.
@@ -33,8 +34,8 @@ Listed n bs (Err OutOfField) = ⊥
 Listed n bs (Err (Schedule e)) = list_refusal n bs ≡ Some e
 
 -- The setting of a first line that is carried out.
-abbrev pub setting_of : Opening → Setting
-setting_of o = record { boards = round_count o.round; lines = o.lines; kind = o.kind }
+abbrev pub setting_of : Setup → Setting
+setting_of s = record { boards = bus_count s.schedule; lines = s.lines; kind = s.kind }
 
 -- The slot list of a second line, or none.
 abbrev pub Relisted : ℕ → Result (Option SlotList) TraceFault → Result (Option (List ℕ)) LineFault → Type 0

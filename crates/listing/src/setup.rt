@@ -2,19 +2,9 @@
 ghost use Rattle.std.specs.Prelude.{◌≤◌};
 
 use crate::bus::BusSchedule;
-use schedule::round_robin::RoundRobin;
 use trace::word::MemoryKind;
 
 pub mod reading;
-
-// The fabric of a first line.
-#[derive(Clone, Copy)]
-pub(crate) struct Opening {
-    round: RoundRobin,
-    lines: u8,
-    kind: MemoryKind,
-    ghost few: { lines ≤ 64 },
-}
 
 // The setup, how many bytes of the trace it took, and the number of the next line.
 #[derive(Clone, Copy)]

@@ -6,7 +6,7 @@ ghost use Rattle.trace.specs.Commands.{fabric_order, list_order};
 ghost use Rattle.trace.specs.Faults.{Told};
 ghost use Rattle.schedule.specs.Meanings.{list_count, list_owners, list_span, round_count, round_owners};
 ghost use Rattle.schedule.specs.Rows.{in_turn};
-ghost use Rattle.listing.specs.Beginnings.{Begun, FromSecond, standing};
+ghost use Rattle.listing.specs.Beginnings.{Begun, FromSecond, Opened};
 ghost use Rattle.listing.specs.Lines.{line_text};
 ghost use Rattle.listing.specs.Listing.{begun, list_settled, settled, unopened};
 ghost use Rattle.listing.specs.Sessions.{Stopped};
@@ -14,7 +14,7 @@ ghost use Rattle.listing.specs.Setups.{Listed, Relisted, Turned, setting_of};
 
 use crate::bus::BusSchedule;
 use crate::lines::Line;
-use crate::setup::{Opening, Setup};
+use crate::setup::Setup;
 use schedule::Schedule;
 use schedule::round_robin::RoundRobin;
 use schedule::slot_list::SlotList;
@@ -43,16 +43,20 @@ fn slot_list(boards: usize, entries: &[u8]) -> Result<SlotList, LineFault>
     Ok(list)
 }
 
-fn open(alloc: Global, line: &[u8]) -> Result<Opening, TraceFault>
+// The first line makes the fabric, with a round robin, and the second is still to be read.
+fn open(alloc: Global, line: &[u8]) -> Result<Setup, TraceFault>
+    requires { length line.now < 32768 }
     ensures value { Told setting_of result (settled (fabric_order line.now)) }
-    ensures turn { IfOk result (λ o. round_owners o.round ≡ in_turn (round_count o.round)) }
+    ensures stands { IfOk result (λ s. Opened s × (s.used ≡ length line.now + 1)) }
 {
     let asked = read_fabric(alloc, line)?;
     let round = round_robin(asked.boards)?;
-    Ok(Opening {
-        round,
-        lines: asked.lines,
+    Ok(Setup {
+        schedule: BusSchedule::InTurn(round),
+        lines: asked.lines as usize,
         kind: asked.kind,
+        used: line.len() + 1,
+        line: 2,
     })
 }
 
@@ -79,59 +83,26 @@ pub(crate) fn stop(line: u32, fault: TraceFault, out: &mut String) -> Result<(),
     }
 }
 
-// The round robin stays, and the second line is still to be read.
-fn in_turn(opening: Opening, used: usize) -> Setup
-    ensures stand { standing result ≡ begun opening.lines (round_count opening.round) (round_count opening.round) (round_owners opening.round) }
-    ensures place { (result.line ≡ 2) × (result.used ≡ used) }
-{
-    Setup {
-        schedule: BusSchedule::InTurn(opening.round),
-        lines: opening.lines as usize,
-        kind: opening.kind,
-        used,
-        line: 2,
-    }
-}
-
-// The slot list stands in its place, and the third line is next.
-fn in_list(opening: Opening, list: SlotList, used: usize) -> Setup
-    ensures stand { standing result ≡ begun opening.lines (list_count list) (list_span list) (list_owners list) }
-    ensures place { (result.line ≡ 3) × (result.used ≡ used) }
-{
-    Setup {
-        schedule: BusSchedule::Listed(list),
-        lines: opening.lines as usize,
-        kind: opening.kind,
-        used,
-        line: 3,
-    }
-}
-
-fn second(
-    alloc: Global,
-    opening: Opening,
-    used: usize,
-    rest: &[u8],
-    out: &mut String,
-) -> Result<Option<Setup>, AllocError>
-    requires few { used + length rest.now ≤ 32768 }
-    requires turn { round_owners opening.round ≡ in_turn (round_count opening.round) }
-    ensures { IfOk result (λ o. FromSecond o opening used rest.now (string_bytes out.old) (string_bytes out.new)) }
+// The setup after the second line: where that is a slot list it stands in the round robin's place, and else the line is still to be carried out.
+fn second(alloc: Global, opened: Setup, rest: &[u8]) -> Result<Setup, TraceFault>
+    requires few { opened.used + length rest.now ≤ 32768 }
+    requires stands { Opened opened }
+    ensures { FromSecond result opened rest.now }
 {
     let (line, after) = cut(rest, b'\n');
     let Some(_) = after else {
-        return Ok(Some(in_turn(opening, used)));
+        return Ok(opened);
     };
-    match relist(alloc, opening.round.boards(), line) {
-        Ok(found) => match found {
-            None => Ok(Some(in_turn(opening, used))),
-            Some(list) => Ok(Some(in_list(opening, list, used + line.len() + 1))),
-        },
-        Err(fault) => {
-            stop(2, fault, out)?;
-            Ok(None)
-        }
-    }
+    let Some(list) = relist(alloc, opened.schedule.boards(), line)? else {
+        return Ok(opened);
+    };
+    Ok(Setup {
+        schedule: BusSchedule::Listed(list),
+        lines: opened.lines,
+        kind: opened.kind,
+        used: opened.used + line.len() + 1,
+        line: 3,
+    })
 }
 
 // The fault of a trace that has no whole line.
@@ -162,10 +133,17 @@ impl Setup {
             write!(out, "{line}")?;
             return Ok(None);
         };
-        match open(alloc, line) {
-            Ok(opening) => second(alloc, opening, line.len() + 1, rest, out),
+        let opened = match open(alloc, line) {
+            Ok(opened) => opened,
             Err(fault) => {
                 stop(1, fault, out)?;
+                return Ok(None);
+            }
+        };
+        match second(alloc, opened, rest) {
+            Ok(setup) => Ok(Some(setup)),
+            Err(fault) => {
+                stop(2, fault, out)?;
                 Ok(None)
             }
         }
