@@ -7,8 +7,10 @@ use crate::setup::Setup;
 use crate::trace_memory::TraceMemory;
 use std::alloc::{AllocError, Global};
 
-fn list_all(alloc: Global, trace: &[u8]) -> Result<String, AllocError>
-    ensures { IfOk result (λ s. string_bytes s ≡ listing trace.now) }
+// The whole listing of a trace.
+pub fn list_trace(alloc: Global, trace: &[u8]) -> Result<String, AllocError>
+    ensures text { IfOk result (λ s. string_bytes s ≡ listing trace.now) }
+    ensures law { IfOk result (λ s. Stays trace.now (string_bytes s)) }
 {
     let mut text = String::new(alloc);
     let Some(setup) = Setup::read(alloc, trace, &mut text)? else {
@@ -18,14 +20,5 @@ fn list_all(alloc: Global, trace: &[u8]) -> Result<String, AllocError>
     let memory = TraceMemory::over(&mut words, setup.lines(), setup.kind());
     let mut replay = Replay::new(trace, &setup, setup.schedule(), memory);
     replay.finish(alloc, &mut text)?;
-    Ok(text)
-}
-
-// The whole listing of a trace.
-pub fn list_trace(alloc: Global, trace: &[u8]) -> Result<String, AllocError>
-    ensures text { IfOk result (λ s. string_bytes s ≡ listing trace.now) }
-    ensures law { IfOk result (λ s. Stays trace.now (string_bytes s)) }
-{
-    let text = list_all(alloc, trace)?;
     Ok(text)
 }

@@ -31,8 +31,7 @@ pub(crate) const MAX_TRACE: usize = 32768;
 fn round_robin(boards: u8) -> Result<RoundRobin, LineFault>
     ensures { Turned boards result }
 {
-    let round = RoundRobin::new(boards as usize)?;
-    Ok(round)
+    Ok(RoundRobin::new(boards as usize)?)
 }
 
 fn slot_list(boards: usize, entries: &[u8]) -> Result<SlotList, LineFault>
@@ -45,7 +44,6 @@ fn slot_list(boards: usize, entries: &[u8]) -> Result<SlotList, LineFault>
 
 // The first line makes the fabric, with a round robin, and the second is still to be read.
 fn open(alloc: Global, line: &[u8]) -> Result<Setup, TraceFault>
-    requires { length line.now < 32768 }
     ensures value { Told setting_of result (settled (fabric_order line.now)) }
     ensures stands { IfOk result (λ s. Opened s × (s.used ≡ length line.now + 1)) }
 {
@@ -66,8 +64,7 @@ fn relist(alloc: Global, boards: usize, line: &[u8]) -> Result<Option<SlotList>,
     let Some(entries) = read_list(alloc, line)? else {
         return Ok(None);
     };
-    let list = slot_list(boards, entries.as_slice())?;
-    Ok(Some(list))
+    Ok(Some(slot_list(boards, entries.as_slice())?))
 }
 
 // Ends with the fault of a line.
