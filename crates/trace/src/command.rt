@@ -1,5 +1,5 @@
 // A line of a trace: letter, space and the words of the rest.
-ghost use Rattle.std.specs.Prelude.{◌≡◌, length, vec_items, nat_le};
+ghost use Rattle.std.specs.Prelude.{◌≡◌, vec_items};
 ghost use Rattle.std.specs.Option as options;
 ghost use Rattle.std.specs.Result.{result_map_both};
 ghost use Rattle.trace.specs.Commands.{apart, boards_of, call_order, called, collect_of, fabric_letter, fabric_of, fabric_order, guard_of, list_order, meaning, parts_of, place_of, set_up, slots_of, store_of};
@@ -139,6 +139,7 @@ fn boards(alloc: Global, words: &[Word]) -> Result<Vec<u8>, TraceFault>
     if !all_numbers(words) {
         return Err(TraceFault::Line(LineFault::NotANumber));
     }
+    // Pushed in a loop: `try_collect` wants a closure with a `?` and its result's type written, which is no plainer.
     let mut list = Vec::new(alloc);
     for word in words {
         let board = BOARD.take(*word)?;

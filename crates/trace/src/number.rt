@@ -10,7 +10,7 @@ pub(crate) enum NumberFault {
     TooLarge,
 }
 
-// The number that `s` writes.
+// The number that `s` writes. It only adds the law to what is computed below, so that one lemma proves it.
 pub(crate) fn read_number(s: &[u8]) -> Result<u64, NumberFault>
     ensures value { result ≡ read_as (number s.now) }
     ensures decimal { ReadsDecimal s.now (result_ok result) }

@@ -1,5 +1,5 @@
 // The words of a line, split by one space each, and the numbers that its fields take.
-ghost use Rattle.std.specs.Prelude.{◌≡◌, ℕ, ◌<◌, ◌≤◌, map, length, IfOk, slice_index, slice_index_or};
+ghost use Rattle.std.specs.Prelude.{◌≡◌, ℕ, ◌<◌, ◌≤◌, map, IfOk, slice_index, slice_index_or};
 ghost use Rattle.trace.specs.Words.{word_of, words, in_field, is_number, kind_of, all_numbers, fields_of};
 
 use crate::fault::LineFault;
@@ -100,7 +100,7 @@ impl Field {
     }
 }
 
-// As many numbers as there are fields, each in its own.
+// As many numbers as there are fields, each in its own. They share one array, so callers cast each to its type; `bound` proves that no cast loses bits.
 #[tactic(auto, unfolding(crate::specs::Words::fields_of))]
 pub(crate) fn read_fields<const N: usize>(
     words: &[Word],
