@@ -161,13 +161,10 @@ fn take_apart(alloc: Global, line: &[u8]) -> Result<Parts, TraceFault>
             letter: *letter,
             words: Vec::new(alloc),
         }),
-        [letter, b' ', rest @ ..] => {
-            let words = read_words(alloc, rest)?;
-            Ok(Parts {
-                letter: *letter,
-                words,
-            })
-        }
+        [letter, b' ', rest @ ..] => Ok(Parts {
+            letter: *letter,
+            words: read_words(alloc, rest)?,
+        }),
         _ => Err(TraceFault::Line(LineFault::Letter)),
     }
 }
