@@ -1,5 +1,5 @@
 -- The first lines of a trace, one cut at a time.
-use Rattle.std.proofs.Common.{◌≡◌, ℕ, ◌+◌, ◌≤◌, List, [], ◌∷◌, ◌++◌, length, drop, Some, None, Ok, Err, Option, Result, sym, ap, ◌∙◌, append_assoc, arith, length-append}
+use Rattle.std.proofs.Common.{◌≡◌, ℕ, ◌+◌, ◌≤◌, List, [], ◌∷◌, ◌++◌, length, drop, Some, None, Ok, Err, Option, Result, sym, ap, ◌∙◌, append_assoc, length-append}
 use Rattle.std.proofs.lemmas.List.{drop_at, drop-drop}
 use Rattle.std.proofs.lemmas.Bool.{cond-false, le-ltb}
 use Rattle.schedule.specs.Meanings.{Means, list_count, list_owners, list_span}
@@ -12,9 +12,9 @@ use Rattle.trace.specs.declared.fault.LineFault.{LineFault}
 use Rattle.trace.specs.declared.fault.TraceFault.{TraceFault}
 use Rattle.trace.specs.declared.fault.TraceFault.TheVariants.{Line, OutOfMemory}
 use Rattle.trace.proofs.Cuts.{pieces_cut, pieces_after}
-use Rattle.listing.specs.Listing.{Stand, begun, first, from_first, from_second, list_settled, listed, listing, second, settled, unopened}
+use Rattle.listing.specs.Listing.{begun, first, from_first, from_second, list_settled, listed, listing, second, settled, unopened}
 use Rattle.listing.specs.Beginnings.{FromSecond, Opened, standing}
-use Rattle.listing.specs.Setups.{Relisted}
+use Rattle.listing.specs.Setups.{Relisted, setting_of}
 use Rattle.listing.specs.Bus.{bus_count}
 use Rattle.listing.specs.declared.setup.Setup.{Setup}
 use Rattle.listing.specs.Sessions.{Stopped}
@@ -34,13 +34,23 @@ module _ (input : List ℕ) where
       ap (from_second n l) (cut_more more e)
       ∙ (λ i. second n l (list_settled n (list_order (before 10 input))) (sym (cut_more more e) i) (sym (pieces_cut 10 more) i))
 
-  pub first_last : after 10 input ≡ None → from_first (pieces 10 input) ≡ unopened (before 10 input)
-  first_last e = ap from_first (cut_last e)
+pub few_first : (s : List ℕ) → length s ≤ 32768 → listing s ≡ from_first (pieces 10 s)
+few_first s h = cond-false _ _ _ (le-ltb 32768 (length s) h)
 
-  pub first_more : (more : List ℕ) → after 10 input ≡ Some more → from_first (pieces 10 input) ≡ first (settled (fabric_order (before 10 input))) (pieces 10 more)
-  first_more more e = ap from_first (cut_more more e) ∙ ap (first (settled (fabric_order (before 10 input)))) (sym (pieces_cut 10 more))
+module _ (trace line : List ℕ) (few : length trace ≤ 32768) (is : line ≡ before 10 trace) where
+  pub first_last : after 10 trace ≡ None → listing trace ≡ unopened line
+  first_last none = few_first trace few ∙ ap from_first (cut_last trace none) ∙ ap unopened (sym is)
 
--- A fault of the first or the second line is all there is to list.
+  module _ (rest : List ℕ) (some : after 10 trace ≡ Some rest) where
+    pub first_more : listing trace ≡ first (settled (fabric_order line)) (pieces 10 rest)
+    first_more =
+        few_first trace few ∙ ap from_first (cut_more trace rest some)
+        ∙ (λ i. first (settled (fabric_order (sym is i))) (sym (pieces_cut 10 rest) i))
+
+    pub first_opened : (o : Setup) → settled (fabric_order line) ≡ Ok (setting_of o) → listing trace ≡ from_second (bus_count o.schedule) o.lines (pieces 10 rest)
+    first_opened o told = first_more ∙ ap (λ r. first r (pieces 10 rest)) told
+
+-- A fault of the first line is all there is to list.
 pub first_stopped : {A : Type 0} (f : A → Setting) (e : TraceFault) (r : Result Setting LineFault) (rest : List (List ℕ)) (t t' : List ℕ) → Told f (Err e) r → Stopped e 1 t t' → t' ≡ t ++ first r rest
 first_stopped f (Line g) r rest t t' told w = w ∙ sym (ap (λ x. t ++ first x rest) told)
 first_stopped f OutOfMemory r rest t t' told w = absurd w
@@ -50,11 +60,6 @@ pub drop_after : (s line more : List ℕ) → s ≡ line ++ 10 ∷ more → drop
 drop_after s line more e =
     let long : length (line ++ 10 ∷ []) ≡ length line + 1 = length-append line (10 ∷ []) in
     ap (drop (length line + 1)) (e ∙ sym (append_assoc line (10 ∷ []) more)) ∙ drop_at (line ++ 10 ∷ []) more (length line + 1) long
-
-pub length_after : (s line more : List ℕ) → s ≡ line ++ 10 ∷ more → length s ≡ length line + 1 + length more
-length_after s line more e =
-    let long : length (line ++ 10 ∷ more) ≡ length line + length (10 ∷ more) = length-append line (10 ∷ more) in
-    ap length e ∙ omega arith
 
 module _ (n l : ℕ) (rest line more : List ℕ) (is : line ≡ before 10 rest) (some : after 10 rest ≡ Some more) where
   second_at : (b : ℕ) → b ≡ n → (e : Result (Option (List ℕ)) LineFault) → list_settled b (list_order line) ≡ e → from_second n l (pieces 10 rest) ≡ second n l e (pieces 10 rest) (pieces 10 more)
@@ -82,9 +87,6 @@ second_faulty o rest line more is some b eb OutOfMemory told = tt
 pub second_stopped : (f : TraceFault) (o : Setup) (rest t t' : List ℕ) → FromSecond (Err f) o rest → Stopped f 2 t t' → t' ≡ t ++ from_second (bus_count o.schedule) o.lines (pieces 10 rest)
 second_stopped (Line g) o rest t t' told w = w ∙ sym (ap (λ x. t ++ x) told)
 second_stopped OutOfMemory o rest t t' told w = absurd w
-
-pub few_first : (s : List ℕ) → length s ≤ 32768 → listing s ≡ from_first (pieces 10 s)
-few_first s h = cond-false _ _ _ (le-ltb 32768 (length s) h)
 
 pub begun_from : (s o : Setup) (trace rest : List ℕ) → FromSecond (Ok s) o rest → listing trace ≡ from_second (bus_count o.schedule) o.lines (pieces 10 rest) → drop o.used trace ≡ rest → listing trace ≡ listed s.line (standing s) (pieces 10 (drop s.used trace))
 begun_from s o trace rest h whole cut =

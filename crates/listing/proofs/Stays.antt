@@ -1,6 +1,6 @@
 -- What whole lines have listed stays, whatever follows them.
 use Rattle.std.proofs.Common.{◌≡◌, ℕ, ◌+◌, ◌≤◌, Bool, true, false, cond, eqb, List, [], ◌∷◌, ◌++◌, length, Some, None, Ok, Err, Option, Result, sym, refl, ap, ◌∙◌, append_assoc, append-nil, arith, length-append}
-use Rattle.std.proofs.lemmas.Bool.{cond-false, eq-eqb, le-ltb}
+use Rattle.std.proofs.lemmas.Bool.{eq-eqb}
 use Rattle.schedule.specs.Rows.{in_turn, repeated}
 use Rattle.trace.specs.Commands.{Order, Setting, call_order, fabric_order, list_order}
 use Rattle.trace.specs.Pieces.{after, before, on_first, pieces}
@@ -8,6 +8,7 @@ use Rattle.trace.specs.declared.fault.LineFault.{LineFault}
 use Rattle.trace.proofs.Cuts.{pieces_cut, pieces_after}
 use Rattle.listing.specs.Listing.{Stand, Stays, begun, first, from_first, from_second, line_print, list_settled, listed, listing, onward, second, settled}
 use Rattle.listing.specs.Listing as stand
+use Rattle.listing.proofs.Firsts.{few_first}
 
 -- The text of b begins with that of a.
 abbrev Extends : (a b : List ℕ) → Type 0
@@ -65,15 +66,12 @@ lines_stay lines more =
     pieces_join 10 lines more refl ∙ (λ i. pieces_cut 10 lines i ++ pieces_cut 10 more i) in
     (w.0, ap from_first long ∙ w.1 ∙ ap (λ l. from_first l ++ w.0) (sym short))
 
-few_listed : (s : List ℕ) → length s ≤ 32768 → listing s ≡ from_first (pieces 10 s)
-few_listed s h = cond-false _ _ _ (le-ltb 32768 (length s) h)
-
 pub stays : (trace text : List ℕ) → text ≡ listing trace → Stays trace text
 stays trace text e lines more is few =
     let w = lines_stay lines more in
     let joined : trace ++ more ≡ lines ++ 10 ∷ more = ap (λ t. t ++ more) is ∙ append_assoc lines (10 ∷ []) more in
     let small : length trace ≤ 32768 = omega (arith, length-append trace more) in (
       w.0,
-      few_listed (trace ++ more) few ∙ ap (λ t. from_first (pieces 10 t)) joined ∙ w.1
-          ∙ ap (λ t. from_first (pieces 10 t) ++ w.0) (sym is) ∙ ap (λ t. t ++ w.0) (sym (few_listed trace small)) ∙ ap (λ t. t ++ w.0) (sym e),
+      few_first (trace ++ more) few ∙ ap (λ t. from_first (pieces 10 t)) joined ∙ w.1
+          ∙ ap (λ t. from_first (pieces 10 t) ++ w.0) (sym is) ∙ ap (λ t. t ++ w.0) (sym (few_first trace small)) ∙ ap (λ t. t ++ w.0) (sym e),
     )

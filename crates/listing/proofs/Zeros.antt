@@ -1,14 +1,12 @@
 -- A fabric over words that are all zero.
-use Rattle.std.proofs.Common.{◌≡◌, ℕ, ◌+◌, ◌-◌, ◌≤◌, true, false, cond, ltb, List, ◌++◌, length, get_or, take, drop, replicate, slice_index, refl, ap, ◌∙◌, inl, inr, arith}
+use Rattle.std.proofs.Common.{◌≡◌, ℕ, ◌+◌, true, false, cond, ltb, length, get_or, replicate, slice_index, refl, ◌∙◌, inl, inr, arith}
 use mathlib.Core.Path.{fun_ext}
 use lib.ListN.{length-replicate, get_or-replicate}
-use Rattle.std.proofs.lemmas.List.{take-replicate, get_or_past}
+use Rattle.std.proofs.lemmas.List.{get_or_past}
 use Rattle.std.proofs.lemmas.Bool.{cases_lt}
 use Rattle.memory.specs.Interface.{upto}
-use Rattle.memory.specs.Flat.{counted, lined}
-use Rattle.memory.specs.Window.{reach, seen}
 use Rattle.listing.specs.Beginnings.{stand_from}
-use Rattle.listing.specs.Listing.{Stand, begun, listed}
+use Rattle.listing.specs.Listing.{begun}
 
 none : (n : ℕ) (words : ℕ → ℕ) → ((k : ℕ) → words k ≡ 0) → upto n words ≡ (λ k. 0)
 none n words e = fun_ext (λ k. elim (ltb k n) as (λ v. cond v (words k) 0 ≡ 0) [ true ↦ e k | false ↦ refl ])
@@ -21,8 +19,7 @@ all_zeros n k =
       | inr ge ↦ get_or_past {X = ℕ} (replicate n 0) k 0 (omega (arith, e))
     ]
 
-same_stand : {words words' : ℕ → ℕ} {size size' : ℕ} (owners : ℕ → ℕ) (count span : ℕ) → words ≡ words' → size ≡ size' → stand_from words size owners count span ≡ stand_from words' size' owners count span
-same_stand owners count span e e' = rw (e, e') refl
-
 pub begun_zeros : (l start : ℕ) (words : ℕ → ℕ) (size : ℕ) (owners : ℕ → ℕ) (count span : ℕ) → words ≡ upto l (λ k. slice_index (replicate 64 0) (start + k)) → size ≡ l → stand_from words size owners count span ≡ begun l count span owners
-begun_zeros l start words size owners count span e h = same_stand owners count span (e ∙ none l _ (λ k. all_zeros 64 (start + k))) h
+begun_zeros l start words size owners count span e h =
+    let blank : words ≡ (λ k. 0) = e ∙ none l _ (λ k. all_zeros 64 (start + k)) in
+    rw (blank, h) refl
