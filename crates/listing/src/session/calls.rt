@@ -5,7 +5,7 @@ ghost use Rattle.rules.specs.Calls.{says, slot};
 ghost use Rattle.listing.specs.Answers.{slot_text};
 ghost use Rattle.listing.specs.Beginnings.{stand_from};
 ghost use Rattle.listing.specs.Lines.{line_text};
-ghost use Rattle.listing.specs.Listing.{after, passed, printed, slot_lines, ran};
+ghost use Rattle.listing.specs.Listing.{after, passed, printed};
 ghost use Rattle.listing.specs.Sessions.{Obeyed, stand_of};
 
 use crate::lines::{CallLetter, Line};

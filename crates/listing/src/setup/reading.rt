@@ -1,14 +1,10 @@
 // The first line makes the fabric, and the second may give it a slot list.
-ghost use Rattle.std.specs.Prelude.{◌≡◌, ◌+◌, ◌<◌, ◌≤◌, ◌++◌, length, IfOk, string_bytes, OnOk};
-ghost use Rattle.schedule.specs.Lists.{count_refusal, list_refusal};
-ghost use Rattle.std.specs.Result.{result_err};
+ghost use Rattle.std.specs.Prelude.{◌≡◌, ◌+◌, ◌<◌, ◌≤◌, length, IfOk, string_bytes, OnOk};
 ghost use Rattle.trace.specs.Commands.{fabric_order, list_order};
 ghost use Rattle.trace.specs.Faults.{Told};
-ghost use Rattle.schedule.specs.Meanings.{list_count, list_owners, list_span, round_count, round_owners};
-ghost use Rattle.schedule.specs.Rows.{in_turn};
 ghost use Rattle.listing.specs.Beginnings.{Begun, FromSecond, Opened};
 ghost use Rattle.listing.specs.Lines.{line_text};
-ghost use Rattle.listing.specs.Listing.{begun, list_settled, settled, unopened};
+ghost use Rattle.listing.specs.Listing.{list_settled, settled, unopened};
 ghost use Rattle.listing.specs.Sessions.{Stopped};
 ghost use Rattle.listing.specs.Setups.{Listed, Relisted, Turned, setting_of};
 
