@@ -96,49 +96,42 @@ impl fmt::Display for Line {
 
     fn fmt<W: fmt::Write>(&self, f: &mut fmt::Formatter<W>) -> fmt::Result {
         match *self {
-            Line::Idle { slot, owner } => write!(f, "{slot} {owner} idle -\n"),
+            Line::Idle { slot, owner } => writeln!(f, "{slot} {owner} idle -"),
             Line::Done {
                 slot,
                 owner,
                 deed,
                 line,
-            } => {
-                let deed = deed.word();
-                write!(f, "{slot} {owner} {deed} {line}\n")
-            }
-            Line::Wait { call, board, line } => write!(f, "{call} {board} {line} wait\n"),
+            } => writeln!(f, "{slot} {owner} {} {line}", deed.word()),
+            Line::Wait { call, board, line } => writeln!(f, "{call} {board} {line} wait"),
             Line::Hit {
                 call,
                 board,
                 line,
                 word,
-            } => write!(f, "{call} {board} {line} hit {word}\n"),
-            Line::Replaced { board, line } => write!(f, "R {board} {line} ok\n"),
-            Line::Guarded { line } => write!(f, "K {line} ok\n"),
+            } => writeln!(f, "{call} {board} {line} hit {word}"),
+            Line::Replaced { board, line } => writeln!(f, "R {board} {line} ok"),
+            Line::Guarded { line } => writeln!(f, "K {line} ok"),
             Line::Collected {
                 board,
                 word,
                 waited,
-            } => write!(f, "C {board} {word} {waited}\n"),
+            } => writeln!(f, "C {board} {word} {waited}"),
             Line::Refused {
                 call,
                 first,
                 refusal,
-            } => {
-                let refusal = refusal.number();
-                write!(f, "{call} {first} refused {refusal}\n")
-            }
+            } => writeln!(f, "{call} {first} refused {}", refusal.number()),
             Line::Fault { line, fault } => {
                 let cause = fault.cause();
                 match fault {
                     LineFault::Schedule(refusal) => {
-                        let refusal = refusal.number();
-                        write!(f, "fault {line} {cause} {refusal}\n")
+                        writeln!(f, "fault {line} {cause} {}", refusal.number())
                     }
-                    _ => write!(f, "fault {line} {cause}\n"),
+                    _ => writeln!(f, "fault {line} {cause}"),
                 }
             }
-            Line::TooLong => f.write_str("fault 0 7\n"),
+            Line::TooLong => writeln!(f, "fault 0 7"),
         }
     }
 }

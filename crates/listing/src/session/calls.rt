@@ -121,8 +121,7 @@ impl<S: Schedule, M: LineMemory> Session<S, M> {
         ensures bound { self.new.slot ≤ self.old.slot + count }
     {
         for _ in 0..count {
-            let line = self.pass();
-            write!(out, "{line}")?;
+            write!(out, "{}", self.pass())?;
         }
         Ok(())
     }

@@ -68,10 +68,7 @@ pub(crate) fn stop(line: u32, fault: TraceFault, out: &mut String) -> Result<(),
     ensures { OnOk result (Stopped fault line (string_bytes out.old) (string_bytes out.new)) }
 {
     match fault {
-        TraceFault::Line(fault) => {
-            let line = Line::Fault { line, fault };
-            write!(out, "{line}")
-        }
+        TraceFault::Line(fault) => write!(out, "{}", Line::Fault { line, fault }),
         TraceFault::OutOfMemory => Err(AllocError),
     }
 }
@@ -116,14 +113,12 @@ impl Setup {
         ensures { IfOk result (λ o. Begun o trace.now (string_bytes out.old) (string_bytes out.new)) }
     {
         if trace.len() > MAX_TRACE {
-            let line = Line::TooLong;
-            write!(out, "{line}")?;
+            write!(out, "{}", Line::TooLong)?;
             return Ok(None);
         }
         let (line, after) = cut(trace, b'\n');
         let Some(rest) = after else {
-            let line = unopened(line);
-            write!(out, "{line}")?;
+            write!(out, "{}", unopened(line))?;
             return Ok(None);
         };
         let opened = match open(alloc, line) {
