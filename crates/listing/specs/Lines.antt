@@ -2,10 +2,8 @@
 use Rattle.std.specs.Prelude.{ℕ, List, ◌++◌, codes, decimal}
 use Rattle.rules.specs.Words as rules
 use Rattle.rules.specs.Words.{deed_word}
-use Rattle.schedule.specs.Numbers.{number}
-use Rattle.trace.specs.Faults.{cause}
+use Rattle.trace.specs.Faults.{fault_text}
 use Rattle.trace.specs.declared.fault.LineFault.{LineFault}
-use Rattle.trace.specs.declared.fault.LineFault.TheVariants.{NoLineEnd, Letter, WordCount, NotANumber, OutOfField, Schedule}
 use Rattle.listing.specs.declared.lines.CallLetter.{CallLetter}
 use Rattle.listing.specs.declared.lines.CallLetter.TheVariants.{Load, Store, Replace, Guard, Collect}
 use Rattle.listing.specs.declared.lines.Line.{Line}
@@ -48,17 +46,9 @@ collected_line board word waited = codes "C " ++ (decimal board ++ (codes " " ++
 abbrev pub refused_line : CallLetter → (first refusal : ℕ) → List ℕ
 refused_line call first refusal = letter_of call ++ (codes " " ++ (decimal first ++ (codes " refused " ++ (decimal refusal ++ codes "\n"))))
 
--- What follows the cause.
-abbrev pub after_cause : LineFault → List ℕ
-after_cause NoLineEnd = codes "\n"
-after_cause Letter = codes "\n"
-after_cause WordCount = codes "\n"
-after_cause NotANumber = codes "\n"
-after_cause OutOfField = codes "\n"
-after_cause (Schedule e) = codes " " ++ (decimal (number e) ++ codes "\n")
-
+-- The fault of a line of the trace.
 abbrev pub fault_line : ℕ → LineFault → List ℕ
-fault_line n f = codes "fault " ++ (decimal n ++ (codes " " ++ (decimal (cause f) ++ after_cause f)))
+fault_line n f = codes "fault " ++ (decimal n ++ (codes " " ++ (fault_text f ++ codes "\n")))
 
 -- A trace that is too long to be read.
 abbrev pub too_long : List ℕ

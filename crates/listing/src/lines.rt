@@ -102,7 +102,7 @@ impl fmt::Display for Line {
                 owner,
                 deed,
                 line,
-            } => writeln!(f, "{slot} {owner} {} {line}", deed.word()),
+            } => writeln!(f, "{slot} {owner} {deed} {line}"),
             Line::Wait { call, board, line } => writeln!(f, "{call} {board} {line} wait"),
             Line::Hit {
                 call,
@@ -121,16 +121,8 @@ impl fmt::Display for Line {
                 call,
                 first,
                 refusal,
-            } => writeln!(f, "{call} {first} refused {}", refusal.number()),
-            Line::Fault { line, fault } => {
-                let cause = fault.cause();
-                match fault {
-                    LineFault::Schedule(refusal) => {
-                        writeln!(f, "fault {line} {cause} {}", refusal.number())
-                    }
-                    _ => writeln!(f, "fault {line} {cause}"),
-                }
-            }
+            } => writeln!(f, "{call} {first} refused {refusal}"),
+            Line::Fault { line, fault } => writeln!(f, "fault {line} {fault}"),
             Line::TooLong => writeln!(f, "fault 0 7"),
         }
     }
@@ -147,8 +139,8 @@ impl Line {
         ensures { line_text result ≡ answer_text call board line (replied_of answer) }
     {
         match answer {
-            Ok(Reply::Wait) => Line::Wait { call, board, line },
-            Ok(Reply::Hit(word)) => Line::Hit {
+            Ok(None) => Line::Wait { call, board, line },
+            Ok(Some(word)) => Line::Hit {
                 call,
                 board,
                 line,

@@ -17,7 +17,7 @@ pub enum TraceMemory<'a> {
 impl<'a> TraceMemory<'a> {
     // So many lines over the words lent to it: the first of them, or in a window the last.
     // Flat memory stands in for chained memory, which is still to come: the listing does not depend on the kind.
-    pub fn over(words: &'a mut [u64; 64], lines: usize, kind: MemoryKind) -> TraceMemory<'a>
+    pub(crate) fn over(words: &'a mut [u64; 64], lines: usize, kind: MemoryKind) -> TraceMemory<'a>
         requires { lines ≤ 64 }
         ensures size { memory_size result ≡ lines }
         ensures words { memory_words result ≡ upto lines (λ k. slice_index words.old (start_of kind lines + k)) }

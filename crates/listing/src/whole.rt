@@ -4,7 +4,6 @@ ghost use Rattle.listing.specs.Listing.{Stays, listing};
 
 use crate::replay::Replay;
 use crate::setup::Setup;
-use crate::trace_memory::TraceMemory;
 use std::alloc::{AllocError, Global};
 
 // The whole listing of a trace.
@@ -17,8 +16,7 @@ pub fn list_trace(alloc: Global, trace: &[u8]) -> Result<String, AllocError>
         return Ok(text);
     };
     let mut words = [0; 64];
-    let memory = TraceMemory::over(&mut words, setup.lines(), setup.kind());
-    let mut replay = Replay::new(trace, &setup, setup.schedule(), memory);
+    let mut replay = Replay::new(trace, &setup, setup.schedule(), setup.memory(&mut words));
     replay.finish(alloc, &mut text)?;
     Ok(text)
 }

@@ -3,7 +3,6 @@
 
 use listing::replay::Replay;
 use listing::setup::Setup;
-use listing::trace_memory::TraceMemory;
 use std::io;
 use std::io::Read;
 
@@ -23,8 +22,7 @@ fn main(rt: HostRuntime) -> io::Result<()> {
         return rt.write_all(text.as_bytes());
     };
     let mut words = [0; 64];
-    let memory = TraceMemory::over(&mut words, setup.lines(), setup.kind());
-    let mut replay = Replay::new(trace, &setup, setup.schedule(), memory);
+    let mut replay = Replay::new(trace, &setup, setup.schedule(), setup.memory(&mut words));
     'lines: while replay.step(alloc, &mut text)? {
         if text.len() >= CHUNK {
             rt.write_all(text.as_bytes())?;

@@ -1,16 +1,19 @@
 // The first line makes the fabric, and the second may give it a slot list.
-ghost use Rattle.std.specs.Prelude.{◌≡◌, ◌+◌, ◌<◌, ◌≤◌, length, IfOk, string_bytes, OnOk};
+ghost use Rattle.std.specs.Prelude.{◌≡◌, ◌+◌, ◌≤◌, length, IfOk, slice_index, string_bytes, OnOk};
+ghost use Rattle.memory.specs.Interface.{upto};
 ghost use Rattle.trace.specs.Commands.{fabric_order, list_order};
 ghost use Rattle.trace.specs.Faults.{Told};
 ghost use Rattle.listing.specs.Beginnings.{Begun, FromSecond, Opened};
 ghost use Rattle.listing.specs.Lines.{line_text};
 ghost use Rattle.listing.specs.Listing.{list_settled, settled, unopened};
+ghost use Rattle.listing.specs.Memories.{memory_size, memory_words, start_of};
 ghost use Rattle.listing.specs.Sessions.{Stopped};
 ghost use Rattle.listing.specs.Setups.{Listed, Relisted, Turned, setting_of};
 
 use crate::bus::BusSchedule;
 use crate::lines::Line;
 use crate::setup::Setup;
+use crate::trace_memory::TraceMemory;
 use schedule::Schedule;
 use schedule::round_robin::RoundRobin;
 use schedule::slot_list::SlotList;
@@ -149,6 +152,14 @@ impl Setup {
         ensures few { result ≤ 64 }
     {
         self.lines
+    }
+
+    // The memory that the first line asks for, over the words lent to it.
+    pub fn memory<'a>(&self, words: &'a mut [u64; 64]) -> TraceMemory<'a>
+        ensures size { memory_size result ≡ self.now.lines }
+        ensures words { memory_words result ≡ upto self.now.lines (λ k. slice_index words.old (start_of self.now.kind self.now.lines + k)) }
+    {
+        TraceMemory::over(words, self.lines, self.kind)
     }
 
     pub fn schedule(&self) -> BusSchedule
