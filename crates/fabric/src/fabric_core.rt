@@ -27,6 +27,7 @@ pub(crate) struct Turn {
     ghost few: { count ≤ 16 },
 }
 
+// Fixed tables, since making a fabric may not fail: at most 16 boards and 64 lines.
 #[derive(Drop)]
 pub struct Core<M> {
     boards: [Board; 16],

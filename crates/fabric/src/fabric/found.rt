@@ -12,23 +12,29 @@ use memory::interface::LineMemory;
 use rules::refusal::Refusal;
 use schedule::Schedule;
 
+// The index of a number that is below the limit, or else the refusal.
+fn below<const N: usize>(number: usize, limit: usize, refusal: Refusal) -> Result<Index<N>, Refusal>
+    requires { limit ≤ N }
+    ensures { MatchResult result (λ i. (i.at ≡ number) × (number < limit)) (λ e. (e ≡ refusal) × (limit ≤ number)) }
+{
+    if number < limit {
+        Ok(Index { at: number })
+    } else {
+        Err(refusal)
+    }
+}
+
 impl<S: Schedule, M: LineMemory> Fabric<S, M> {
     pub(crate) fn board(&self, board: usize) -> Result<BoardIndex, Refusal>
         ensures { MatchResult result (λ i. (i.at ≡ board) × (board < (world S.Schedule M.LineMemory self.now).count)) (λ e. (e ≡ NoBoard) × ((world S.Schedule M.LineMemory self.now).count ≤ board)) }
     {
-        if board >= self.schedule.boards() {
-            return Err(Refusal::NoBoard);
-        }
-        Ok(Index { at: board })
+        below(board, self.schedule.boards(), Refusal::NoBoard)
     }
 
     pub(crate) fn line(&self, line: usize) -> Result<LineIndex, Refusal>
         ensures { MatchResult result (λ i. (i.at ≡ line) × (line < size_of (world S.Schedule M.LineMemory self.now).cells)) (λ e. (e ≡ NoLine) × (size_of (world S.Schedule M.LineMemory self.now).cells ≤ line)) }
     {
-        if line >= self.core.lines() {
-            return Err(Refusal::NoLine);
-        }
-        Ok(Index { at: line })
+        below(line, self.core.lines(), Refusal::NoLine)
     }
 
     // A board without a request, and a line.

@@ -1,4 +1,4 @@
-// One board changed in its place.
+// One board changed in its place. No `&mut Board` is lent out, since nothing is proved of an element after its loan.
 ghost use Rattle.std.specs.Prelude.{◌≡◌};
 ghost use Rattle.rules.specs.Boards.{free, gets, lifts, placed, posts, replaces, sends, stored};
 ghost use Rattle.rules.specs.Cells.{board_at, with_board};

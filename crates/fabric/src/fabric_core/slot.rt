@@ -14,9 +14,9 @@ use memory::interface::LineMemory;
 use rules::deed::Deed;
 use rules::kind::{Kind, LastDeed};
 
-// What was done in a slot, and for which line.
+// What was done in a slot, and for which line: a `SlotReport` without the owner, which is the same whatever is done.
 #[derive(Clone, Copy)]
-pub struct Did {
+pub(crate) struct Did {
     pub(crate) deed: Deed,
     pub(crate) line: Option<LineIndex>,
 }
