@@ -142,10 +142,7 @@ mod tests {
     }
 
     fn in_turn(boards: usize) -> Result<RoundRobin, Fail> {
-        match RoundRobin::new(boards) {
-            Ok(schedule) => Ok(schedule),
-            Err(_) => Err(Fail::new("the board count")),
-        }
+        RoundRobin::new(boards).map_err(|_| Fail::new("the board count"))
     }
 
     #[test]

@@ -11,6 +11,7 @@ use memory::interface::LineMemory;
 use rules::kind::LastDeed;
 
 impl<M: LineMemory> Core<M> {
+    #[tactic(auto, using(crate::proofs::Made::new_view))]
     pub(crate) fn new(memory: M) -> Core<M>
         ensures { view M.LineMemory result ≡ empty (M.LineMemory.words memory) (M.LineMemory.size memory) }
     {
