@@ -6,3 +6,4 @@ pub mod Views
 pub mod Worlds
 pub mod Requests
 pub mod Slots
+pub mod Found

@@ -27,7 +27,7 @@ impl Board {
     pub(crate) fn post(&mut self, line: LineIndex, kind: Kind)
         ensures { board_of self.new ≡ posts line.at kind (board_of self.old) }
     {
-        if let Kind::Store(_) = kind {
+        if matches!(kind, Kind::Store(_)) {
             self.take(line, Event::PostStore);
         }
         self.request = Some(Request {
@@ -80,13 +80,11 @@ impl Board {
     pub(crate) fn age(&mut self)
         ensures { board_of self.new ≡ ages (board_of self.old) }
     {
-        if let Some(request) = self.request {
-            if !request.is_served() {
-                self.request = Some(Request {
-                    waited: request.waited.saturating_add(1),
-                    ..request
-                });
-            }
+        if let Some(request) = self.request.filter(|request| !request.is_served()) {
+            self.request = Some(Request {
+                waited: request.waited.saturating_add(1),
+                ..request
+            });
         }
     }
 

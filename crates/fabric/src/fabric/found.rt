@@ -1,9 +1,10 @@
 // The board and the line that a call names, or why it is refused.
-ghost use Rattle.std.specs.Prelude.{◌≡◌, ◌<◌, ◌≤◌, IfOk, MatchResult};
+ghost use Rattle.std.specs.Prelude.{◌≡◌, ◌≤◌, IfOk};
 ghost use Rattle.std.specs.Result.{result_err};
 ghost use Rattle.rules.specs.Calls.{vacant};
 ghost use Rattle.rules.specs.Cells.{size_of};
 ghost use Rattle.rules.specs.declared.refusal.Refusal.TheVariants.{NoBoard, NoLine};
+ghost use Rattle.fabric.specs.Found.{Found};
 ghost use Rattle.fabric.specs.Worlds.{world};
 
 use crate::fabric::Fabric;
@@ -15,7 +16,7 @@ use schedule::Schedule;
 // The index of a number that is below the limit, or else the refusal.
 fn below<const N: usize>(number: usize, limit: usize, refusal: Refusal) -> Result<Index<N>, Refusal>
     requires { limit ≤ N }
-    ensures { MatchResult result (λ i. (i.at ≡ number) × (number < limit)) (λ e. (e ≡ refusal) × (limit ≤ number)) }
+    ensures { Found number limit refusal result }
 {
     if number < limit {
         Ok(Index { at: number })
@@ -26,13 +27,13 @@ fn below<const N: usize>(number: usize, limit: usize, refusal: Refusal) -> Resul
 
 impl<S: Schedule, M: LineMemory> Fabric<S, M> {
     pub(crate) fn board(&self, board: usize) -> Result<BoardIndex, Refusal>
-        ensures { MatchResult result (λ i. (i.at ≡ board) × (board < (world S.Schedule M.LineMemory self.now).count)) (λ e. (e ≡ NoBoard) × ((world S.Schedule M.LineMemory self.now).count ≤ board)) }
+        ensures { Found board (world S.Schedule M.LineMemory self.now).count NoBoard result }
     {
         below(board, self.schedule.boards(), Refusal::NoBoard)
     }
 
     pub(crate) fn line(&self, line: usize) -> Result<LineIndex, Refusal>
-        ensures { MatchResult result (λ i. (i.at ≡ line) × (line < size_of (world S.Schedule M.LineMemory self.now).cells)) (λ e. (e ≡ NoLine) × (size_of (world S.Schedule M.LineMemory self.now).cells ≤ line)) }
+        ensures { Found line (size_of (world S.Schedule M.LineMemory self.now).cells) NoLine result }
     {
         below(line, self.core.lines(), Refusal::NoLine)
     }
