@@ -8,7 +8,7 @@ use Rattle.rules.specs.Boards.{Board, blank, change}
 use Rattle.rules.specs.Cells.{below, but_for, each}
 use Rattle.fabric.specs.declared.board.Board as fabric
 use Rattle.fabric.specs.Boards.{boards_of}
-use Rattle.fabric.proofs.Arrays.{change_same, change_other}
+use Rattle.fabric.proofs.Arrays.{change_other, change_own, change_same}
 use Rattle.fabric.proofs.Tables.{front_left, front_right, front_take}
 
 module _ (h : ℕ → Board → Board) (bs : ℕ → Board) where
@@ -33,13 +33,7 @@ module _ (h : ℕ → Board → Board) (bs : ℕ → Board) where
   ])
 
   pub each_skip : (i : ℕ) → bs i ≡ h i (bs i) → each i h bs ≡ each (i + 1) h bs
-  each_skip i e = fun_ext (λ c. elim (cases_eq c i) [
-    | inl q ↦ rw q (each_out i i (omega arith) ∙ e ∙ sym (each_in (i + 1) i (omega arith)))
-    | inr ne ↦ elim (cases_lt c i) [
-      | inl k ↦ each_in i c k ∙ sym (each_in (i + 1) c (omega arith))
-      | inr k ↦ each_out i c k ∙ sym (each_out (i + 1) c (omega arith))
-    ]
-  ])
+  each_skip i e = sym (change_own (each i h bs) i) ∙ ap (change (each i h bs) i) (each_out i i (omega arith)) ∙ each_more i (bs i) e
 
   pub each_all : (i n : ℕ) → n ≤ i → i ≤ n → each i h bs ≡ each n h bs
   each_all i n a b = let e : i ≡ n = omega arith in ap (λ k. each k h bs) e

@@ -51,16 +51,13 @@ pub front_left : (ys zs : List Board) (c : ℕ) → c < length ys → boards_of 
 unfolding boards_of
 front_left ys zs c h =
     let n : length (map board_of ys) ≡ length ys = length-map ys board_of in
-    ap (λ xs. get_or xs c blank) (map-append board_of ys zs) ∙ get_or_append_left (map board_of ys) (map board_of zs) blank c (omega arith)
+    rw map-append (get_or_append_left (map board_of ys) (map board_of zs) blank c (omega arith))
 
 pub front_right : (n : ℕ) (ys bs : List Board) (c : ℕ) → length ys ≡ n → n ≤ c → boards_of (ys ++ drop n bs) c ≡ boards_of bs c
 unfolding boards_of
 front_right n ys bs c size h =
     let k : n + (c - n) ≡ c = omega arith in
-    ap (λ xs. get_or xs c blank) (map-append board_of ys (drop n bs))
-    ∙ get_or-append_right (map board_of ys) (map board_of (drop n bs)) n c blank (length-map ys board_of ∙ size) h
-    ∙ ap (λ xs. get_or xs (c - n) blank) (sym (drop-map board_of n bs))
-    ∙ get_or-drop n (map board_of bs) (c - n) blank ∙ ap (λ j. get_or (map board_of bs) j blank) k
+    rw (map-append, ← drop-map, get_or-append_right (map board_of ys) (drop n (map board_of bs)) n c blank (length-map ys board_of ∙ size) h, get_or-drop, k) refl
 
 pub row_at_lem : (xs : List Line) (l : ℕ) (d : Line) → l < length xs → rows_of xs l ≡ row (get_or xs l d).row
 unfolding rows_of
