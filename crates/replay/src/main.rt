@@ -23,7 +23,7 @@ fn main(rt: HostRuntime) -> io::Result<()> {
     };
     let mut words = [0; 64];
     let mut replay = Replay::new(trace, &setup, setup.schedule(), setup.memory(&mut words));
-    'lines: while replay.step(alloc, &mut text)? {
+    while replay.step(alloc, &mut text)? {
         if text.len() >= CHUNK {
             rt.write_all(text.as_bytes())?;
             text.clear();

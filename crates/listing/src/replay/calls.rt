@@ -83,7 +83,7 @@ impl<'a, S: Schedule, M: LineMemory> Replay<'a, S, M> {
     pub fn finish(&mut self, alloc: Global, out: &mut String) -> Result<(), AllocError>
         ensures { OnOk result (string_bytes out.new ≡ string_bytes out.old ++ coming S.Schedule M.LineMemory self.old) }
     {
-        'lines: while self.step(alloc, out)? {}
+        while self.step(alloc, out)? {}
         Ok(())
     }
 }

@@ -1,5 +1,5 @@
 use Rattle.listing.specs.Replays.{unread}
 use Rattle.replay.proofs.main.Given as goal
 
-abbrev pub decreases-lines : goal.decreases-lines
-decreases-lines l = unread l.replay
+abbrev pub decreases-loop-text : goal.decreases-loop-text
+decreases-loop-text l = unread l.replay
