@@ -1,6 +1,6 @@
 // The lines of a listing.
 ghost use Rattle.std.specs.Prelude.{◌≡◌, Some};
-ghost use Rattle.fabric.specs.Worlds.{replied_of};
+ghost use Rattle.fabric.specs.Worlds.{reply_of};
 ghost use Rattle.listing.specs.Answers.{answer_text};
 ghost use Rattle.listing.specs.Lines.{letter_of, line_text};
 
@@ -129,27 +129,17 @@ impl fmt::Display for Line {
 }
 
 impl Line {
-    // The answer of a load or a store.
-    pub(crate) fn of_reply(
-        call: CallLetter,
-        board: u8,
-        line: u8,
-        answer: Result<Reply, Refusal>,
-    ) -> Line
-        ensures { line_text result ≡ answer_text call board line (replied_of answer) }
+    // The answer of a load or a store that is accepted.
+    pub(crate) fn of_reply(call: CallLetter, board: u8, line: u8, reply: Reply) -> Line
+        ensures { line_text result ≡ answer_text call board line (reply_of reply) }
     {
-        match answer {
-            Ok(None) => Line::Wait { call, board, line },
-            Ok(Some(word)) => Line::Hit {
+        match reply {
+            None => Line::Wait { call, board, line },
+            Some(word) => Line::Hit {
                 call,
                 board,
                 line,
                 word,
-            },
-            Err(refusal) => Line::Refused {
-                call,
-                first: board,
-                refusal,
             },
         }
     }

@@ -31,68 +31,6 @@ impl<S: Schedule, M: LineMemory> Session<S, M> {
         }
     }
 
-    fn load(&mut self, board: u8, line: u8) -> Line
-        ensures text { line_text result ≡ printed (load board line) (stand_of S.Schedule M.LineMemory self.old) }
-        ensures after { stand_of S.Schedule M.LineMemory self.new ≡ after (load board line) (stand_of S.Schedule M.LineMemory self.old) }
-    {
-        let answer = self.fabric.load(board as usize, line as usize);
-        Line::of_reply(CallLetter::Load, board, line, answer)
-    }
-
-    fn store(&mut self, board: u8, line: u8, word: u64, key: u16) -> Line
-        ensures text { line_text result ≡ printed (store board line word key) (stand_of S.Schedule M.LineMemory self.old) }
-        ensures after { stand_of S.Schedule M.LineMemory self.new ≡ after (store board line word key) (stand_of S.Schedule M.LineMemory self.old) }
-    {
-        let answer = self.fabric.store(board as usize, line as usize, word, key);
-        Line::of_reply(CallLetter::Store, board, line, answer)
-    }
-
-    fn replace(&mut self, board: u8, line: u8) -> Line
-        ensures text { line_text result ≡ printed (replace board line) (stand_of S.Schedule M.LineMemory self.old) }
-        ensures after { stand_of S.Schedule M.LineMemory self.new ≡ after (replace board line) (stand_of S.Schedule M.LineMemory self.old) }
-    {
-        match self.fabric.replace(board as usize, line as usize) {
-            Ok(()) => Line::Replaced { board, line },
-            Err(refusal) => Line::Refused {
-                call: CallLetter::Replace,
-                first: board,
-                refusal,
-            },
-        }
-    }
-
-    fn guard(&mut self, line: u8, old: u16, new: u16) -> Line
-        ensures text { line_text result ≡ printed (guard line old new) (stand_of S.Schedule M.LineMemory self.old) }
-        ensures after { stand_of S.Schedule M.LineMemory self.new ≡ after (guard line old new) (stand_of S.Schedule M.LineMemory self.old) }
-    {
-        match self.fabric.guard(line as usize, old, new) {
-            Ok(()) => Line::Guarded { line },
-            Err(refusal) => Line::Refused {
-                call: CallLetter::Guard,
-                first: line,
-                refusal,
-            },
-        }
-    }
-
-    fn collect(&mut self, board: u8) -> Line
-        ensures text { line_text result ≡ printed (collect board) (stand_of S.Schedule M.LineMemory self.old) }
-        ensures after { stand_of S.Schedule M.LineMemory self.new ≡ after (collect board) (stand_of S.Schedule M.LineMemory self.old) }
-    {
-        match self.fabric.collect(board as usize) {
-            Ok(Collected { word, waited }) => Line::Collected {
-                board,
-                word,
-                waited,
-            },
-            Err(refusal) => Line::Refused {
-                call: CallLetter::Collect,
-                first: board,
-                refusal,
-            },
-        }
-    }
-
     // What happens in the next slot.
     fn pass(&mut self) -> Line
         requires { self.old.slot + 1 < 2 ^ 64 }
@@ -132,19 +70,54 @@ impl<S: Schedule, M: LineMemory> Session<S, M> {
         ensures after { OnOk result (stand_of S.Schedule M.LineMemory self.new ≡ after (meaning command) (stand_of S.Schedule M.LineMemory self.old)) }
         ensures bound { self.new.slot ≤ self.old.slot + 65535 }
     {
-        let line = match command {
-            Command::Load { board, line } => self.load(board, line),
+        let (call, first, line) = match command {
+            Command::Load { board, line } => {
+                let call = CallLetter::Load;
+                let answer = self.fabric.load(board as usize, line as usize);
+                let line = answer.map(|reply| Line::of_reply(call, board, line, reply));
+                (call, board, line)
+            }
             Command::Store {
                 board,
                 line,
                 word,
                 key,
-            } => self.store(board, line, word, key),
-            Command::Replace { board, line } => self.replace(board, line),
-            Command::Guard { line, old, new } => self.guard(line, old, new),
-            Command::Collect { board } => self.collect(board),
+            } => {
+                let call = CallLetter::Store;
+                let answer = self.fabric.store(board as usize, line as usize, word, key);
+                let line = answer.map(|reply| Line::of_reply(call, board, line, reply));
+                (call, board, line)
+            }
+            Command::Replace { board, line } => {
+                let answer = self.fabric.replace(board as usize, line as usize);
+                let line = answer.map(|()| Line::Replaced { board, line });
+                (CallLetter::Replace, board, line)
+            }
+            Command::Guard {
+                line: first,
+                old,
+                new,
+            } => {
+                let answer = self.fabric.guard(first as usize, old, new);
+                let line = answer.map(|()| Line::Guarded { line: first });
+                (CallLetter::Guard, first, line)
+            }
+            Command::Collect { board } => {
+                let answer = self.fabric.collect(board as usize);
+                let line = answer.map(|Collected { word, waited }| Line::Collected {
+                    board,
+                    word,
+                    waited,
+                });
+                (CallLetter::Collect, board, line)
+            }
             Command::Slots { count } => return self.run(count, out),
         };
+        let line = line.unwrap_or_else(|refusal| Line::Refused {
+            call,
+            first,
+            refusal,
+        });
         write!(out, "{line}")
     }
 
