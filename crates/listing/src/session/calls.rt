@@ -70,12 +70,14 @@ impl<S: Schedule, M: LineMemory> Session<S, M> {
         ensures after { OnOk result (stand_of S.Schedule M.LineMemory self.new ≡ after (meaning command) (stand_of S.Schedule M.LineMemory self.old)) }
         ensures bound { self.new.slot ≤ self.old.slot + 65535 }
     {
-        let (call, first, line) = match command {
+        let (call, first, answer) = match command {
             Command::Load { board, line } => {
                 let call = CallLetter::Load;
-                let answer = self.fabric.load(board as usize, line as usize);
-                let line = answer.map(|reply| Line::of_reply(call, board, line, reply));
-                (call, board, line)
+                let answer = self
+                    .fabric
+                    .load(board as usize, line as usize)
+                    .map(|reply| Line::of_reply(call, board, line, reply));
+                (call, board, answer)
             }
             Command::Store {
                 board,
@@ -84,36 +86,40 @@ impl<S: Schedule, M: LineMemory> Session<S, M> {
                 key,
             } => {
                 let call = CallLetter::Store;
-                let answer = self.fabric.store(board as usize, line as usize, word, key);
-                let line = answer.map(|reply| Line::of_reply(call, board, line, reply));
-                (call, board, line)
+                let answer = self
+                    .fabric
+                    .store(board as usize, line as usize, word, key)
+                    .map(|reply| Line::of_reply(call, board, line, reply));
+                (call, board, answer)
             }
             Command::Replace { board, line } => {
-                let answer = self.fabric.replace(board as usize, line as usize);
-                let line = answer.map(|()| Line::Replaced { board, line });
-                (CallLetter::Replace, board, line)
+                let answer = self
+                    .fabric
+                    .replace(board as usize, line as usize)
+                    .map(|()| Line::Replaced { board, line });
+                (CallLetter::Replace, board, answer)
             }
-            Command::Guard {
-                line: first,
-                old,
-                new,
-            } => {
-                let answer = self.fabric.guard(first as usize, old, new);
-                let line = answer.map(|()| Line::Guarded { line: first });
-                (CallLetter::Guard, first, line)
+            Command::Guard { line, old, new } => {
+                let answer = self
+                    .fabric
+                    .guard(line as usize, old, new)
+                    .map(|()| Line::Guarded { line });
+                (CallLetter::Guard, line, answer)
             }
             Command::Collect { board } => {
-                let answer = self.fabric.collect(board as usize);
-                let line = answer.map(|Collected { word, waited }| Line::Collected {
+                let answer = self.fabric.collect(board as usize).map(|Collected {
+                    word,
+                    waited,
+                }| Line::Collected {
                     board,
                     word,
                     waited,
                 });
-                (CallLetter::Collect, board, line)
+                (CallLetter::Collect, board, answer)
             }
             Command::Slots { count } => return self.run(count, out),
         };
-        let line = line.unwrap_or_else(|refusal| Line::Refused {
+        let line = answer.unwrap_or_else(|refusal| Line::Refused {
             call,
             first,
             refusal,
