@@ -1,5 +1,6 @@
 -- What a word is, and which field takes it.
 use Rattle.std.specs.Prelude.{ℕ, ◌^◌, Bool, true, false, cond, ◌&&◌, List, [], ◌∷◌, length, Some, None, Ok, Err, Option, Result, ◌==◌, nat_le, nat_lt, slice_index}
+use Rattle.std.specs.List.{list_all}
 use Rattle.trace.specs.declared.fault.LineFault.{LineFault}
 use Rattle.trace.specs.declared.fault.LineFault.TheVariants as fault
 use Rattle.trace.specs.declared.word.MemoryKind.{MemoryKind}
@@ -37,8 +38,7 @@ is_number (Kind k) = false
 is_number Other = false
 
 abbrev pub all_numbers : List Word → Bool
-all_numbers [] = true
-all_numbers (w ∷ ws) = is_number w && all_numbers ws
+all_numbers = list_all is_number
 
 -- The number of a word that lies in a field.
 abbrev pub in_field : Field → Word → Result ℕ LineFault

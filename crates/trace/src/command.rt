@@ -7,7 +7,7 @@ ghost use Rattle.trace.specs.Faults.{Told};
 
 use crate::fault::{LineFault, TraceFault};
 pub use crate::opening::FabricLine;
-use crate::word::{Field, MemoryKind, Word, all_numbers, read_fields, read_words};
+use crate::word::{Field, Word, all_numbers, read_fields, read_words};
 use std::alloc::Global;
 
 // What a line after the opening ones asks for.
@@ -139,7 +139,7 @@ fn boards(alloc: Global, words: &[Word]) -> Result<Vec<u8>, TraceFault>
     if !all_numbers(words) {
         return Err(TraceFault::Line(LineFault::NotANumber));
     }
-    // Pushed in a loop: `try_collect` wants a closure with a `?` and its result's type written, which is no plainer.
+    // Pushed in a loop: of `try_collect` nothing is known where an item fails.
     let mut list = Vec::new(alloc);
     for word in words {
         let board = BOARD.take(*word)?;

@@ -33,7 +33,7 @@ pub enum TraceFault {
 }
 
 impl LineFault {
-    // The published number of the cause.
+    // The published number of the cause; a `match`, since a case with a field has no number of its own.
     pub fn cause(self) -> u8
         ensures { result ≡ cause self }
     {
@@ -55,10 +55,7 @@ impl fmt::Display for LineFault {
     fn fmt<W: fmt::Write>(&self, f: &mut fmt::Formatter<W>) -> fmt::Result {
         let cause = self.cause();
         match self {
-            LineFault::Schedule(refusal) => {
-                let refusal = refusal.number();
-                write!(f, "{cause} {refusal}")
-            }
+            LineFault::Schedule(refusal) => write!(f, "{cause} {refusal}"),
             _ => write!(f, "{cause}"),
         }
     }

@@ -115,7 +115,7 @@ pub(crate) fn read_fields<const N: usize>(
     if !all_numbers(words) {
         return Err(LineFault::NotANumber);
     }
-    // By index: what `iter_mut` wrote is not known once its loan is over.
+    // By index: over a `zip` with `iter_mut` an invariant has no array to speak of, and the proof did not close.
     let mut numbers = [0; N];
     for (i, field) in fields.iter().enumerate() {
         numbers[i] = field.take(words[i])?;
