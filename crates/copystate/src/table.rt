@@ -33,6 +33,10 @@ impl Entry {
     }
 }
 
+// A row of the table: its ten entries. A struct, since the table is to be read as one of rows by the project's rule.
+#[derive(Clone, Copy)]
+struct Row([Entry; 10]);
+
 // The entries, by the names that a row has room for.
 const NO: Entry = Entry::Never;
 
@@ -61,18 +65,18 @@ const TO_ISDI: Entry = Entry::To(State::ISdI);
 const TO_IMDS: Entry = Entry::To(State::IMdS);
 
 // The rows stand in the order of the states' codes, their entries in that of the events'.
-const TABLE: [[Entry; 10]; 11] = [
-    [EQ, TO_ISD, TO_IMD, NO, NO, NO, NO, EQ, EQ, EQ],
-    [TO_SMW, NO, NO, TO_I, NO, NO, NO, EQ, TO_I, TO_I],
-    [NO, NO, NO, TO_MIWB, NO, NO, NO, TO_MSWB, TO_MIWB, NO],
-    [NO, NO, NO, NO, TO_S, NO, NO, EQ, TO_ISDI, NO],
-    [NO, NO, NO, NO, TO_M, NO, NO, TO_IMDS, TO_IMDI, NO],
-    [NO, NO, TO_IMD, NO, NO, TO_M, NO, EQ, TO_I, TO_I],
-    [NO, NO, NO, NO, NO, NO, TO_I, EQ, EQ, NO],
-    [NO, NO, NO, TO_MIWB, NO, NO, TO_S, EQ, TO_MIWB, NO],
-    [NO, NO, NO, NO, TO_MIWB, NO, NO, EQ, EQ, NO],
-    [NO, NO, NO, NO, TO_I, NO, NO, EQ, EQ, NO],
-    [NO, NO, NO, NO, TO_MSWB, NO, NO, EQ, TO_IMDI, NO],
+const TABLE: [Row; 11] = [
+    Row([EQ, TO_ISD, TO_IMD, NO, NO, NO, NO, EQ, EQ, EQ]),
+    Row([TO_SMW, NO, NO, TO_I, NO, NO, NO, EQ, TO_I, TO_I]),
+    Row([NO, NO, NO, TO_MIWB, NO, NO, NO, TO_MSWB, TO_MIWB, NO]),
+    Row([NO, NO, NO, NO, TO_S, NO, NO, EQ, TO_ISDI, NO]),
+    Row([NO, NO, NO, NO, TO_M, NO, NO, TO_IMDS, TO_IMDI, NO]),
+    Row([NO, NO, TO_IMD, NO, NO, TO_M, NO, EQ, TO_I, TO_I]),
+    Row([NO, NO, NO, NO, NO, NO, TO_I, EQ, EQ, NO]),
+    Row([NO, NO, NO, TO_MIWB, NO, NO, TO_S, EQ, TO_MIWB, NO]),
+    Row([NO, NO, NO, NO, TO_MIWB, NO, NO, EQ, EQ, NO]),
+    Row([NO, NO, NO, NO, TO_I, NO, NO, EQ, EQ, NO]),
+    Row([NO, NO, NO, NO, TO_MSWB, NO, NO, EQ, TO_IMDI, NO]),
 ];
 
 impl State {
@@ -80,7 +84,7 @@ impl State {
     pub fn entry(self, event: Event) -> Entry
         ensures { result ≡ entry_of self event }
     {
-        TABLE[self as usize][event as usize]
+        TABLE[self as usize].0[event as usize]
     }
 
     // The state after the event: the same state also where the event is never met. The law says what may have changed.
