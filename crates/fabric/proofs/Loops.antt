@@ -52,14 +52,14 @@ each_front h n bs ys long size e = fun_ext (λ c. elim (cases_lt c n) [
 ])
 
 -- A test of some board below n, and one of a list.
-or_assoc : (a b c : Bool) → (a || (b || c)) ≡ (b || (a || c))
-or_assoc true true c = refl
-or_assoc true false c = refl
-or_assoc false b c = refl
+or_swap : (a b c : Bool) → (a || (b || c)) ≡ (b || (a || c))
+or_swap true true c = refl
+or_swap true false c = refl
+or_swap false b c = refl
 
 below_suc : (n : ℕ) (test : ℕ → Bool) → below (suc n) test ≡ (test 0 || below n (λ c. test (suc c)))
 below_suc zero test = refl
-below_suc (suc n) test = ap (λ x. test (suc n) || x) (below_suc n test) ∙ or_assoc (test (suc n)) (test 0) (below n (λ c. test (suc c)))
+below_suc (suc n) test = ap (λ x. test (suc n) || x) (below_suc n test) ∙ or_swap (test (suc n)) (test 0) (below n (λ c. test (suc c)))
 
 pub below_list : {A : Type 0} (test : Board → Bool) (v : A → Board) (xs : List A) → list_any (λ x. test (v x)) xs ≡ below (length xs) (λ c. test (get_or (map v xs) c blank))
 below_list test v [] = refl

@@ -5,14 +5,14 @@ use rules::deed::Deed;
 pub type Reply = Option<u64>;
 
 // The result and the waited count of a request that is taken back.
-#[derive(Clone, Copy)]
+#[derive(Clone, Copy, PartialEq, Eq, Debug)]
 pub struct Collected {
     pub word: u64,
     pub waited: u64,
 }
 
-// What happened in a slot.
-#[derive(Clone, Copy)]
+// What happened in a slot. A slot in which nothing is done has no line and the deed "idle": the rules give it both.
+#[derive(Clone, Copy, PartialEq, Eq, Debug)]
 pub struct SlotReport {
     pub owner: usize,
     pub deed: Deed,

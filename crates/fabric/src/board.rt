@@ -8,7 +8,7 @@ pub(crate) mod deeds;
 pub(crate) mod records;
 pub mod requests;
 
-// A board's state and word at a line.
+// A board's state and word at a line. Without a copy the word is 0, and not none: that is what the rules have a board answer.
 #[derive(Clone, Copy)]
 pub struct LineRecord {
     pub(crate) state: State,

@@ -5,21 +5,21 @@ use crate::board::Board;
 use crate::index::BoardIndex;
 use crate::queue::Queue;
 
+mod conditions;
 mod leaves;
 mod made;
 mod parts;
 mod replies;
 pub(crate) mod slot;
-mod tests;
 
-// The boards that wait for a line, and its key.
+// The boards that wait for a line, and its key: 0 is open, as the rules number keys.
 #[derive(Clone, Copy)]
 pub(crate) struct Line {
     row: Queue<16>,
     key: u16,
 }
 
-// The owner of a slot, among the first boards, as many as the schedule has.
+// The owner of a slot, and how many boards there are.
 #[derive(Clone, Copy)]
 pub(crate) struct Turn {
     pub(crate) count: usize,

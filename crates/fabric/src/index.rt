@@ -1,4 +1,4 @@
-// A number that a call has found below a bound.
+// A number that is known to be below a bound.
 ghost use Rattle.std.specs.Prelude.{◌<◌};
 
 #[derive(Clone, Copy, PartialEq, Eq, Debug)]

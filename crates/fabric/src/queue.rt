@@ -5,7 +5,7 @@ use crate::index::Index;
 
 mod ops;
 
-// An array with its length: `ArrayVec` is no `Copy`, and a new fabric's tables are copies of one queue.
+// An array with its length, since a queue is `Copy`, as the boards that hold one are, and `ArrayVec` is not.
 #[derive(Clone, Copy)]
 pub struct Queue<const N: usize> {
     items: [Index<N>; 16],

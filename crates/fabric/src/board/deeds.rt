@@ -1,7 +1,7 @@
 // What a board does for its request and its write-backs.
 ghost use Rattle.std.specs.Prelude.{◌≡◌, not};
 ghost use Rattle.copystate.specs.States.{holds, upgrades};
-ghost use Rattle.rules.specs.Boards.{ages, free, gets, gives, lifts, placed, posts, replaces, result_of, sends};
+ghost use Rattle.rules.specs.Boards.{ages, free, gets, lifts, placed, posts, replaces, result_of, sends};
 ghost use Rattle.rules.specs.Calls.{is_free};
 ghost use Rattle.rules.specs.Slots.{first_of};
 ghost use Rattle.fabric.specs.Boards.{board_of};

@@ -31,7 +31,7 @@ impl<S: Schedule, M: LineMemory> Fabric<S, M> {
         ensures answer { replied_of result ≡ says (load board line) (world S.Schedule M.LineMemory self.old) }
         ensures after { world S.Schedule M.LineMemory self.new ≡ step (load board line) (world S.Schedule M.LineMemory self.old) }
     {
-        let (board, line) = self.vacant(board, line)?;
+        let (board, line) = self.find_vacant(board, line)?;
         Ok(self.core.reply(board, line, Kind::Load))
     }
 
@@ -46,7 +46,7 @@ impl<S: Schedule, M: LineMemory> Fabric<S, M> {
         ensures answer { replied_of result ≡ says (store board line word key) (world S.Schedule M.LineMemory self.old) }
         ensures after { world S.Schedule M.LineMemory self.new ≡ step (store board line word key) (world S.Schedule M.LineMemory self.old) }
     {
-        let (board, line) = self.vacant(board, line)?;
+        let (board, line) = self.find_vacant(board, line)?;
         if self.core.is_locked(line, key) {
             return Err(Refusal::KeyDiffers);
         }
@@ -58,7 +58,7 @@ impl<S: Schedule, M: LineMemory> Fabric<S, M> {
         ensures answer { done_of result ≡ says (replace board line) (world S.Schedule M.LineMemory self.old) }
         ensures after { world S.Schedule M.LineMemory self.new ≡ step (replace board line) (world S.Schedule M.LineMemory self.old) }
     {
-        let (board, line) = self.vacant(board, line)?;
+        let (board, line) = self.find_vacant(board, line)?;
         if !self.core.can_replace(board, line) {
             return Err(Refusal::NothingToReplace);
         }
@@ -74,7 +74,7 @@ impl<S: Schedule, M: LineMemory> Fabric<S, M> {
         ensures answer { done_of result ≡ says (guard line old new) (world S.Schedule M.LineMemory self.old) }
         ensures after { world S.Schedule M.LineMemory self.new ≡ step (guard line old new) (world S.Schedule M.LineMemory self.old) }
     {
-        let line = self.line(line)?;
+        let line = self.find_line(line)?;
         if new > MAX_KEY {
             return Err(Refusal::KeyTooLarge);
         }
@@ -90,7 +90,7 @@ impl<S: Schedule, M: LineMemory> Fabric<S, M> {
         ensures answer { got_of result ≡ says (collect board) (world S.Schedule M.LineMemory self.old) }
         ensures after { world S.Schedule M.LineMemory self.new ≡ step (collect board) (world S.Schedule M.LineMemory self.old) }
     {
-        let board = self.board(board)?;
+        let board = self.find_board(board)?;
         let request = self.core.board(board).request.ok_or(Refusal::NoRequest)?;
         let word = request.result().ok_or(Refusal::NotServed)?;
         self.core.free_at(board);

@@ -26,21 +26,21 @@ fn below<const N: usize>(number: usize, limit: usize, refusal: Refusal) -> Resul
 }
 
 impl<S: Schedule, M: LineMemory> Fabric<S, M> {
-    pub(crate) fn board(&self, board: usize) -> Result<BoardIndex, Refusal>
+    pub(crate) fn find_board(&self, board: usize) -> Result<BoardIndex, Refusal>
         ensures { Found board (world S.Schedule M.LineMemory self.now).count NoBoard result }
     {
         below(board, self.schedule.boards(), Refusal::NoBoard)
     }
 
-    pub(crate) fn line(&self, line: usize) -> Result<LineIndex, Refusal>
+    pub(crate) fn find_line(&self, line: usize) -> Result<LineIndex, Refusal>
         ensures { Found line (size_of (world S.Schedule M.LineMemory self.now).cells) NoLine result }
     {
-        below(line, self.core.lines(), Refusal::NoLine)
+        below(line, self.core.line_count(), Refusal::NoLine)
     }
 
     // A board without a request, and a line.
     #[tactic(auto, unfolding(rules::specs::Calls::vacant))]
-    pub(crate) fn vacant(
+    pub(crate) fn find_vacant(
         &self,
         board: usize,
         line: usize,
@@ -48,8 +48,8 @@ impl<S: Schedule, M: LineMemory> Fabric<S, M> {
         ensures value { result_err result ≡ vacant (world S.Schedule M.LineMemory self.now).count board line (world S.Schedule M.LineMemory self.now).cells }
         ensures found { IfOk result (λ p. (p.0.at ≡ board) × (p.1.at ≡ line)) }
     {
-        let board = self.board(board)?;
-        let line = self.line(line)?;
+        let board = self.find_board(board)?;
+        let line = self.find_line(line)?;
         if self.core.is_busy(board) {
             return Err(Refusal::Busy);
         }

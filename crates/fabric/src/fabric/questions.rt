@@ -32,14 +32,14 @@ impl<S: Schedule, M: LineMemory> Fabric<S, M> {
     pub fn lines(&self) -> usize
         ensures { result ≡ size_of (world S.Schedule M.LineMemory self.now).cells }
     {
-        self.core.lines()
+        self.core.line_count()
     }
 
     // The board's request, or none.
     pub fn request(&self, board: usize) -> Result<Option<Request>, Refusal>
         ensures { result_map_both place_of (λ e. e) result ≡ of_board (world S.Schedule M.LineMemory self.now) board (λ x. x.place) }
     {
-        let board = self.board(board)?;
+        let board = self.find_board(board)?;
         Ok(self.core.board(board).request)
     }
 
@@ -47,7 +47,7 @@ impl<S: Schedule, M: LineMemory> Fabric<S, M> {
     pub fn write_back(&self, board: usize, at: usize) -> Result<Option<usize>, Refusal>
         ensures { result ≡ of_board (world S.Schedule M.LineMemory self.now) board (λ x. place x.list at) }
     {
-        let board = self.board(board)?;
+        let board = self.find_board(board)?;
         Ok(self.core.board(board).write_backs.get(at))
     }
 
@@ -55,22 +55,22 @@ impl<S: Schedule, M: LineMemory> Fabric<S, M> {
     pub fn marked(&self, board: usize) -> Result<Option<usize>, Refusal>
         ensures { result ≡ of_board (world S.Schedule M.LineMemory self.now) board (λ x. x.mark) }
     {
-        let board = self.board(board)?;
+        let board = self.find_board(board)?;
         Ok(self.core.board(board).marked.map(|line| line.at))
     }
 
     pub fn last_deed(&self, board: usize) -> Result<LastDeed, Refusal>
         ensures { result ≡ of_board (world S.Schedule M.LineMemory self.now) board (λ x. x.last) }
     {
-        let board = self.board(board)?;
+        let board = self.find_board(board)?;
         Ok(self.core.board(board).last)
     }
 
     pub fn state(&self, board: usize, line: usize) -> Result<State, Refusal>
         ensures { result ≡ of_copy (world S.Schedule M.LineMemory self.now) board line (λ x. x.state line) }
     {
-        let board = self.board(board)?;
-        let line = self.line(line)?;
+        let board = self.find_board(board)?;
+        let line = self.find_line(line)?;
         Ok(self.core.board(board).state_at(line))
     }
 
@@ -78,8 +78,8 @@ impl<S: Schedule, M: LineMemory> Fabric<S, M> {
     pub fn word(&self, board: usize, line: usize) -> Result<u64, Refusal>
         ensures { result ≡ of_copy (world S.Schedule M.LineMemory self.now) board line (λ x. x.word line) }
     {
-        let board = self.board(board)?;
-        let line = self.line(line)?;
+        let board = self.find_board(board)?;
+        let line = self.find_line(line)?;
         Ok(self.core.board(board).word_at(line))
     }
 
@@ -87,7 +87,7 @@ impl<S: Schedule, M: LineMemory> Fabric<S, M> {
     pub fn waiting(&self, line: usize, at: usize) -> Result<Option<usize>, Refusal>
         ensures { result ≡ of_line (world S.Schedule M.LineMemory self.now) line (λ s. place (row_at s line) at) }
     {
-        let line = self.line(line)?;
+        let line = self.find_line(line)?;
         Ok(self.core.waiting(line, at))
     }
 
@@ -95,7 +95,7 @@ impl<S: Schedule, M: LineMemory> Fabric<S, M> {
     pub fn key(&self, line: usize) -> Result<u16, Refusal>
         ensures { result ≡ of_line (world S.Schedule M.LineMemory self.now) line (λ s. key_at s line) }
     {
-        let line = self.line(line)?;
+        let line = self.find_line(line)?;
         Ok(self.core.key(line))
     }
 

@@ -63,7 +63,7 @@ impl<M: LineMemory> Core<M> {
     }
 
     #[tactic(auto, using(crate::proofs::Views::size_is))]
-    pub(crate) fn lines(&self) -> usize
+    pub(crate) fn line_count(&self) -> usize
         ensures value { result ≡ size_of (view M.LineMemory self.now) }
         ensures few { result ≤ 64 }
     {

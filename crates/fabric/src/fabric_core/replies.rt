@@ -1,7 +1,6 @@
 // A load or a store that is accepted: it hits, or its request is posted.
 ghost use Rattle.std.specs.Prelude.{◌≡◌};
 ghost use Rattle.rules.specs.Calls.{asked, hits, replied};
-ghost use Rattle.rules.specs.Cells.{board_at};
 ghost use Rattle.fabric.specs.Views.{view};
 ghost use Rattle.fabric.specs.Worlds.{reply_of};
 
