@@ -1,5 +1,6 @@
 -- The first lines of a trace, one cut at a time.
-use Rattle.std.proofs.Common.{◌≡◌, ℕ, ◌+◌, ◌≤◌, List, [], ◌∷◌, ◌++◌, length, drop, Some, None, Ok, Err, Option, Result, sym, ap, ◌∙◌, append_assoc, length-append}
+use Rattle.std.proofs.Common.{Bor, ◌≡◌, ℕ, ◌+◌, ◌≤◌, List, [], ◌∷◌, ◌++◌, length, drop, Some, None, Ok, Err, Option, Result, sym, ap, ◌∙◌, append_assoc, length-append}
+use Rattle.std.specs.Option.{option_map}
 use Rattle.std.proofs.lemmas.List.{drop_at, drop-drop}
 use Rattle.std.proofs.lemmas.Bool.{cond-false, le-ltb}
 use Rattle.schedule.specs.Meanings.{Means, list_count, list_owners, list_span}
@@ -18,6 +19,10 @@ use Rattle.listing.specs.Setups.{Relisted, setting_of}
 use Rattle.listing.specs.Bus.{bus_count}
 use Rattle.listing.specs.declared.setup.Setup.{Setup}
 use Rattle.listing.specs.Sessions.{Stopped}
+
+-- What follows a cut, where the value is known.
+pub kept : {r v : Option (Bor (List ℕ))} {o : Option (List ℕ)} → option_map (λ x. x.now) r ≡ o → r ≡ v → o ≡ option_map (λ x. x.now) v
+kept e q = sym e ∙ ap (option_map (λ x. x.now)) q
 
 module _ (input : List ℕ) where
   pub cut_last : after 10 input ≡ None → pieces 10 input ≡ before 10 input ∷ []

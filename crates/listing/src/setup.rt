@@ -6,7 +6,7 @@ use trace::word::MemoryKind;
 
 pub mod reading;
 
-// The setup, how many bytes of the trace it took, and the number of the next line.
+// The setup, how many bytes of the trace it took, and the number of the next line. A count of bytes and not the rest of the trace, for a replay goes on in any trace that it is given.
 #[derive(Clone, Copy)]
 pub struct Setup {
     schedule: BusSchedule,

@@ -1,4 +1,4 @@
-// The whole listing of a trace, on the memory that its first line asks for.
+// A trace listed in one call.
 ghost use Rattle.std.specs.Prelude.{◌≡◌, IfOk, string_bytes};
 ghost use Rattle.listing.specs.Listing.{Stays, listing};
 

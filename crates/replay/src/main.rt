@@ -3,11 +3,12 @@
 
 use listing::replay::Replay;
 use listing::setup::Setup;
+use listing::setup::reading::MAX_TRACE;
 use std::io;
 use std::io::Read;
 
 // One byte more than a trace may have.
-const ENOUGH: u64 = 32769;
+const ENOUGH: u64 = MAX_TRACE as u64 + 1;
 
 // Text is written once there is this much of it.
 const CHUNK: usize = 16384;

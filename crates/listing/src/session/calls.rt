@@ -64,6 +64,7 @@ impl<S: Schedule, M: LineMemory> Session<S, M> {
         Ok(())
     }
 
+    // The counter has room for the slots of any command, as the replay's own bounds show at each call.
     fn carry_out(&mut self, command: Command, out: &mut String) -> Result<(), AllocError>
         requires { self.old.slot + 65535 < 2 ^ 64 }
         ensures text { OnOk result (string_bytes out.new ≡ string_bytes out.old ++ printed (meaning command) (stand_of S.Schedule M.LineMemory self.old)) }

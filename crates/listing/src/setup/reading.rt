@@ -25,7 +25,7 @@ use trace::text::cut;
 use trace::word::MemoryKind;
 
 // The longest trace.
-pub(crate) const MAX_TRACE: usize = 32768;
+pub const MAX_TRACE: usize = 32768;
 
 fn round_robin(boards: u8) -> Result<RoundRobin, LineFault>
     ensures { Turned boards result }
