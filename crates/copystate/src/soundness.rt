@@ -166,17 +166,12 @@ pub fn table_is_sound() -> bool
     ensures checked { table_passes ≡ true }
     ensures law { TableLaw }
 {
-    for state in State::ALL {
-        for event in Event::ALL {
-            if !board_passes(state, event) {
-                return false;
-            }
-            for other in State::ALL {
-                if !pair_passes(state, event, other) {
-                    return false;
-                }
-            }
-        }
-    }
-    true
+    State::ALL.iter().all(|state| {
+        Event::ALL.iter().all(|event| {
+            board_passes(*state, *event)
+                && State::ALL
+                    .iter()
+                    .all(|other| pair_passes(*state, *event, *other))
+        })
+    })
 }
