@@ -42,24 +42,29 @@ list_lawful n place xs good = record {
       (w.0, w.1, ap (λ m. slice_index xs (m % length xs)) e ∙ ap (λ m. slice_index xs m) w.2 ∙ at.2);
 }
 
+-- An entry read in its place.
+pub reads : (xs : List ℕ) (p place : ℕ) → place < p → slice_index xs place ≡ around (take p xs) p place 0
+reads xs p place h = sym (get_or-take p xs place 0 h) ∙ ap (λ i. slice_index (take p xs) i) (stays p place h)
+
 -- Once its ring is at the next place, a list's row is the rest of the row.
 pub list_later : (s t : SlotList) → t.entries ≡ s.entries → t.ring.len ≡ s.ring.len → places t.ring.len t.ring.place ≡ later (places s.ring.len s.ring.place) → list_owners t ≡ later (list_owners s)
 unfolding later list_owners
 list_later s t same long rest = λ i k. slice_index (take (long i) (same i)) (rest i k)
+
+-- Its first owner is the entry at the place of its ring.
+pub list_first : (s : SlotList) → s.ring.place < s.ring.len → slice_index s.entries s.ring.place ≡ list_owners s 0
+unfolding list_owners
+list_first s h = reads s.entries s.ring.len s.ring.place h
 
 -- The row of a list that is kept at the front of an array, from its first entry on.
 pub list_starts : (s : SlotList) (xs : List ℕ) → take (length xs) s.entries ≡ xs → s.ring.len ≡ length xs → places s.ring.len s.ring.place ≡ in_turn (length xs) → list_owners s ≡ repeated xs
 unfolding in_turn repeated list_owners
 list_starts s xs kept long start = ap (λ n k. slice_index (take n s.entries) (places s.ring.len s.ring.place k)) long ∙ (λ i k. slice_index (kept i) (start i k))
 
--- A list that is kept at the front of another.
+-- A list that is kept at the front of another. Kept as a theorem on the row of such a list; no proof needs it.
 pub starts : (xs kept : List ℕ) → take (length xs) kept ≡ xs → ◌≡◌ {A = ℕ → ℕ} (around (take (length xs) kept) (length xs) 0) (repeated xs)
 unfolding repeated places
 starts xs kept e = ap (λ l. around l (length xs) 0) e ∙ around_start (λ k. slice_index xs k) (length xs)
-
--- An entry read in its place.
-pub reads : (xs : List ℕ) (p place : ℕ) → place < p → slice_index xs place ≡ around (take p xs) p place 0
-reads xs p place h = sym (get_or-take p xs place 0 h) ∙ ap (λ i. slice_index (take p xs) i) (stays p place h)
 
 pub round_robin_lawful : (s : RoundRobin) → Lawful (round_count s) (round_count s) (round_owners s)
 unfolding round_owners

@@ -114,6 +114,7 @@ module _ (n : ℕ) (xs : List ℕ) where
       by (Some f) e v = absurd (both_ways true e refl)
 
 -- The test for a board that is missing, board by board.
+-- Kept as theorems on that test; no proof needs them.
 pub missing_more : (xs : List ℕ) (b : ℕ) → missing b xs ≡ false → names b xs ≡ true → missing (b + 1) xs ≡ false
 missing_more xs b none named =
     elim (cases_Bool (missing (b + 1) xs)) [

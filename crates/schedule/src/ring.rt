@@ -27,25 +27,17 @@ impl Ring {
         self.len
     }
 
-    #[tactic(auto, using(crate::specs::Rings::stays))]
-    pub(crate) fn place(self) -> usize
-        ensures first { result ≡ places self.len self.place 0 }
-        ensures value { result ≡ self.place }
-        ensures bound { result < self.len }
-    {
-        self.place
-    }
-
-    // One place on. A branch, since a division in every slot would cost more.
-    #[tactic(auto, using(crate::specs::Rings::later_up, crate::specs::Rings::later_round))]
-    pub(crate) fn advance(&mut self)
+    // The place, and one place on.
+    #[tactic(auto, using(crate::specs::Rings::stays, crate::specs::Rings::later_from))]
+    pub(crate) fn next(&mut self) -> usize
+        ensures first { result ≡ places self.old.len self.old.place 0 }
+        ensures value { result ≡ self.old.place }
+        ensures bound { result < self.old.len }
         ensures rest { places self.new.len self.new.place ≡ later (places self.old.len self.old.place) }
         ensures len { self.new.len ≡ self.old.len }
     {
-        self.place = if self.place + 1 < self.len {
-            self.place + 1
-        } else {
-            0
-        };
+        let place = self.place;
+        self.place = (place + 1) % self.len;
+        place
     }
 }

@@ -7,7 +7,8 @@ pub mod scan;
 
 use crate::ring::Ring;
 
-// The entries at the front, as many as the ring has places. No list exists that would be refused, so each names all of its boards.
+// The entries at the front, as many as the ring has places: an array and not a Vec, since there is no heap, making a list may
+// not fail, and the type is Copy. No list exists that would be refused, so each names all of its boards.
 #[derive(Clone, Copy)]
 pub struct SlotList {
     entries: [u8; 64],

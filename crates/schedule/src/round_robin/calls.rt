@@ -55,8 +55,6 @@ impl Schedule for RoundRobin {
 
     #[tactic(auto, unfolding(crate::specs::Meanings::round_owners))]
     fn next_owner(&mut self) -> usize {
-        let owner = self.ring.place();
-        self.ring.advance();
-        owner
+        self.ring.next()
     }
 }

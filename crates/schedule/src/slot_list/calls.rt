@@ -72,14 +72,6 @@ impl SlotList {
         *self = SlotList::of(boards, entries);
         Ok(())
     }
-
-    #[tactic(auto, using(crate::specs::Laws::reads), unfolding(crate::specs::Meanings::list_owners))]
-    fn owner(&self) -> usize
-        ensures value { result ≡ list_owners self.now 0 }
-        ensures bound { (result < list_count self.now) × (result < 16) }
-    {
-        self.entries[self.ring.place()] as usize
-    }
 }
 
 impl Schedule for SlotList {
@@ -99,10 +91,8 @@ impl Schedule for SlotList {
         self.ring.len()
     }
 
-    #[tactic(auto, using(crate::specs::Laws::list_later))]
+    #[tactic(auto, using(crate::specs::Laws::list_first, crate::specs::Laws::list_later))]
     fn next_owner(&mut self) -> usize {
-        let owner = self.owner();
-        self.ring.advance();
-        owner
+        self.entries[self.ring.next()] as usize
     }
 }
