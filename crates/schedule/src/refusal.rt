@@ -1,5 +1,7 @@
 // Why a schedule is refused.
 ghost use Rattle.std.specs.Prelude.{◌≡◌, Some, decimal};
+ghost use Rattle.std.specs.Result.{result_err};
+ghost use Rattle.schedule.specs.Lists.{count_refusal};
 ghost use Rattle.schedule.specs.Numbers.{number};
 
 use std::fmt;
@@ -23,6 +25,16 @@ impl ScheduleRefusal {
     {
         self as u8
     }
+}
+
+// The test of the board count, which both schedules make.
+pub(crate) fn test_count(boards: usize) -> Result<(), ScheduleRefusal>
+    ensures { result_err result ≡ count_refusal boards }
+{
+    if boards == 0 || boards > 16 {
+        return Err(ScheduleRefusal::BoardCount);
+    }
+    Ok(())
 }
 
 impl fmt::Display for ScheduleRefusal {

@@ -8,7 +8,7 @@ ghost use Rattle.schedule.specs.Meanings.{round_count, round_owners};
 ghost use Rattle.schedule.specs.Laws.{round_robin_lawful};
 
 use crate::Schedule;
-use crate::refusal::ScheduleRefusal;
+use crate::refusal::{ScheduleRefusal, test_count};
 use crate::ring::Ring;
 use crate::round_robin::RoundRobin;
 
@@ -19,9 +19,7 @@ impl RoundRobin {
         ensures first { MatchResult result (λ _. (BadCount boards → ⊥)) (λ e. (number e ≡ 1) × BadCount boards) }
         ensures after { IfOk result (λ s. (round_count s ≡ boards) × (round_owners s ≡ in_turn boards)) }
     {
-        if boards == 0 || boards > 16 {
-            return Err(ScheduleRefusal::BoardCount);
-        }
+        test_count(boards)?;
         Ok(RoundRobin::of(boards))
     }
 

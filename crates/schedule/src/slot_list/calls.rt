@@ -7,7 +7,7 @@ ghost use Rattle.schedule.specs.Meanings.{Means, list_count, list_owners, list_s
 ghost use Rattle.schedule.specs.Laws.{slot_list_lawful};
 
 use crate::Schedule;
-use crate::refusal::ScheduleRefusal;
+use crate::refusal::{ScheduleRefusal, test_count};
 use crate::ring::Ring;
 use crate::slot_list::SlotList;
 use crate::slot_list::scan::{has_foreign, has_missing, padded};
@@ -17,9 +17,7 @@ use crate::slot_list::scan::{has_foreign, has_missing, padded};
 fn tests(boards: usize, entries: &[u8]) -> Result<(), ScheduleRefusal>
     ensures { result_err result ≡ list_refusal boards entries.now }
 {
-    if boards == 0 || boards > 16 {
-        return Err(ScheduleRefusal::BoardCount);
-    }
+    test_count(boards)?;
     if entries.is_empty() || entries.len() > 64 {
         return Err(ScheduleRefusal::ListLength);
     }
