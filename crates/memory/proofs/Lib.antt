@@ -1,4 +1,3 @@
 mod Replacing
 mod FlatWrites
 mod WindowWrites
-pub mod Around
