@@ -53,23 +53,24 @@ IMdS|....dw..
         Ok(())
     }
 
-    fn mark(is: bool, letter: char) -> char {
-        if is { letter } else { '.' }
-    }
-
     #[test]
     fn roles_are_as_printed(rt: HostRuntime) -> Result<(), Fail> {
         let mut text = String::new(rt.alloc());
         for s in State::ALL {
             write!(text, "{s:?}|")?;
-            text.push(mark(s.has_copy(), 'c'))?;
-            text.push(mark(s.load_hits(), 'l'))?;
-            text.push(mark(s.store_hits(), 's'))?;
-            text.push(mark(s.is_holder(), 'h'))?;
-            text.push(mark(s.is_waiting(), 'd'))?;
-            text.push(mark(s.is_waiting_to_write(), 'w'))?;
-            text.push(mark(s.is_upgrading(), 'u'))?;
-            text.push(mark(s.is_writing_back(), 'b'))?;
+            let roles = [
+                (s.has_copy(), 'c'),
+                (s.load_hits(), 'l'),
+                (s.store_hits(), 's'),
+                (s.is_holder(), 'h'),
+                (s.is_waiting(), 'd'),
+                (s.is_waiting_to_write(), 'w'),
+                (s.is_upgrading(), 'u'),
+                (s.is_writing_back(), 'b'),
+            ];
+            for (is, letter) in roles {
+                text.push(if is { letter } else { '.' })?;
+            }
             text.push('\n')?;
         }
         assert_eq!(rt; text.as_str(), ROLES);
