@@ -6,6 +6,7 @@ mod tests {
     use memory::flat::FlatMemory;
     use memory::interface::LineMemory;
     use memory::window::Window;
+    use std::array;
     use std::process::Abort;
 
     const LENGTHS: [usize; 6] = [0, 1, 5, 63, 64, 65];
@@ -14,18 +15,14 @@ mod tests {
 
     // 65 words, no two alike.
     fn sample() -> [u64; 65] {
-        let mut list = [0; 65];
-        for (place, word) in list.iter_mut().enumerate() {
-            *word = place as u64 + 100;
-        }
-        list
+        array::from_fn(|place| place as u64 + 100)
     }
 
     // The sample with 7 at one place, if that is below `end`.
     fn sample_with_7(place: usize, end: usize) -> [u64; 65] {
         let mut list = sample();
-        if place < end && place < 65 {
-            list[place] = 7;
+        if let Some(word) = list.iter_mut().take(end).nth(place) {
+            *word = 7;
         }
         list
     }
