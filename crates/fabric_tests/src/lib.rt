@@ -41,6 +41,7 @@ mod tests {
         Did(usize, Deed, usize),
         Idle(usize),
         Has(State, u64),
+        // By the published number, which no definition of the code gives here.
         Refused(u8),
     }
 
@@ -376,7 +377,7 @@ mod tests {
         Ok(())
     }
 
-    // Board 0's store on the way: kind, line and marks, result and waited count.
+    // Board 0's store on the way: kind, line and marks, result and waited count; each is asked by a call of its own.
     fn shows<S: Schedule, M: LineMemory>(
         rt: &impl Abort,
         fabric: &Fabric<S, M>,
