@@ -35,6 +35,7 @@ impl State {
         State::IMdS,
     ];
 
+    // The questions differ only in the states that they name. Each has a name and no parameter, since the name is what the rules say.
     // The state's row in the table.
     pub fn code(self) -> usize
         ensures { result ≡ state_code self }

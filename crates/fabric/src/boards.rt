@@ -1,4 +1,4 @@
-// The boards of a fabric, as one slice.
+// The boards of a fabric, as one slice. Two loops and not one with a closure, whose contract could only relate what each call was given and left.
 ghost use Rattle.std.specs.Prelude.{◌≡◌, length};
 ghost use Rattle.copystate.specs.States.{holds};
 ghost use Rattle.rules.specs.Boards.{ages, moves};

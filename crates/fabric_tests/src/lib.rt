@@ -109,6 +109,7 @@ mod tests {
         Ok((fabric.state(board, line)?, fabric.word(board, line)?))
     }
 
+    // A `match`, since each call has arguments of its own.
     fn make<S: Schedule, M: LineMemory>(fabric: &mut Fabric<S, M>, call: Call) -> Answer {
         match call {
             Call::Load(board, line) => fabric.load(board, line).into(),

@@ -1,4 +1,4 @@
-// The schedule of a trace: round robin, or its slot list.
+// The schedule of a trace: round robin, or its slot list. An enum that passes each call on: the first lines choose, and nothing after them has to.
 ghost use Rattle.listing.specs.Bus.{bus_count, bus_lawful, bus_owners, bus_span};
 
 use schedule::Schedule;

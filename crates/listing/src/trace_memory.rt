@@ -1,4 +1,4 @@
-// The memory of a trace, of the kind that its first line asks for.
+// The memory of a trace, of the kind that its first line asks for. An enum that passes each call on, as the schedule of a trace is.
 ghost use Rattle.std.specs.Prelude.{◌≡◌, ◌+◌, ◌≤◌, slice_index};
 ghost use Rattle.memory.specs.Interface.{upto};
 ghost use Rattle.listing.specs.Memories.{memory_around, memory_lender, memory_size, memory_sound, memory_words, start_of};

@@ -183,6 +183,7 @@ impl Parts {
         ensures { result_map_both meaning (λ e. e) result ≡ called self.now.letter (vec_items self.now.words) }
     {
         let words = &self.words;
+        // A `match`, since the letters are known: a table of functions would say no more.
         match self.letter {
             b'L' => place(words).map(|(board, line)| Command::Load { board, line }),
             b'S' => store(words),

@@ -38,7 +38,7 @@ impl Board {
         });
     }
 
-    // Its own message goes out, and the request waits.
+    // Its own message goes out, and the request waits. The request is handed over, here and below, so that the contract can name its parts.
     pub(crate) fn send(&mut self, event: Event, request: Request)
         ensures { board_of self.new ≡ sends event request.line.at request.kind request.waited (board_of self.old) }
     {

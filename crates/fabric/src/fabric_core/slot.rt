@@ -185,6 +185,7 @@ impl<M: LineMemory> Core<M> {
         let ready = self.is_ready(turn);
         let waits = self.has_write_back(turn.owner);
         let last = self.board(turn.owner).last;
+        // All cases in one place, as the rules list them.
         match (ready, waits, last) {
             (true, true, LastDeed::Request) => self.write_back(turn.owner),
             (true, _, _) => self.request(turn),

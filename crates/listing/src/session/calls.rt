@@ -71,6 +71,7 @@ impl<S: Schedule, M: LineMemory> Session<S, M> {
         ensures after { OnOk result (stand_of S.Schedule M.LineMemory self.new ≡ after (meaning command) (stand_of S.Schedule M.LineMemory self.old)) }
         ensures bound { self.new.slot ≤ self.old.slot + 65535 }
     {
+        // A `match`, since each command has fields of its own: closures in a table would be no plainer.
         let (call, first, answer) = match command {
             Command::Load { board, line } => {
                 let call = CallLetter::Load;
