@@ -35,13 +35,14 @@ impl State {
         State::IMdS,
     ];
 
-    // The questions differ only in the states that they name. Each has a name and no parameter, since the name is what the rules say.
     // The state's row in the table.
     pub fn code(self) -> usize
         ensures { result ≡ state_code self }
     {
         self as usize
     }
+
+    // Each question names its states, and they differ in nothing else: a name says more than a parameter would.
 
     // Whether the board has the line's word.
     pub fn has_copy(self) -> bool
