@@ -32,7 +32,7 @@ impl Event {
         Event::OtherUpg,
     ];
 
-    // The event's place in a row of the table.
+    // The event's place in a row of the table: a name for what `as` gives.
     pub fn code(self) -> usize
         ensures { result ≡ event_code self }
     {

@@ -35,7 +35,7 @@ impl State {
         State::IMdS,
     ];
 
-    // The state's row in the table.
+    // The state's row in the table: a name for what `as` gives.
     pub fn code(self) -> usize
         ensures { result ≡ state_code self }
     {

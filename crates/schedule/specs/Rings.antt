@@ -1,5 +1,5 @@
 -- Walking round a ring of p places.
-use Rattle.std.specs.Prelude.{◌≡◌, ℕ, ◌+◌, ◌-◌, ◌%◌, ◌<◌, ◌≤◌, refl}
+use Rattle.std.specs.Prelude.{◌≡◌, ℕ, ◌+◌, ◌-◌, ◌%◌, ◌<◌, ◌≤◌}
 use Rattle.std.proofs.Common.{sym, ap, ◌∙◌, inl, inr, mod-lt, mod-eq_of_lt, arith}
 use Rattle.std.proofs.Math.Nat.{mod-add-mod, add-mod_right}
 use Rattle.std.proofs.Math.Path.{fun_ext}
@@ -33,7 +33,6 @@ steps p s t k e =
     let a : s + 1 + k ≡ s + (k + 1) = omega arith in
     ap (λ n. (n + k) % p) e ∙ mod-add-mod (s + 1) p k ∙ ap (λ n. n % p) a
 
--- Kept as a theorem on the step from the last place; no proof needs it.
 pub wraps : (p s : ℕ) → s < p → p ≤ s + 1 → 0 ≡ (s + 1) % p
 wraps p s h k = let e : s + 1 ≡ 0 + p = omega arith in sym (ap (λ n. n % p) e ∙ add-mod_right 0 p ∙ mod-eq_of_lt (omega arith))
 
@@ -42,9 +41,15 @@ pub around_later : (f : ℕ → ℕ) (p place next : ℕ) → next ≡ (place + 
 unfolding later
 around_later f p place next e = fun_ext (λ k. ap f (steps p place next k e))
 
-pub later_from : (p s : ℕ) → places p ((s + 1) % p) ≡ later (places p s)
+later_from : (p s t : ℕ) → t ≡ (s + 1) % p → places p t ≡ later (places p s)
 unfolding places
-later_from p s = around_later (λ n. n) p s ((s + 1) % p) refl
+later_from p s t e = around_later (λ n. n) p s t e
+
+pub later_up : (p s : ℕ) → s + 1 < p → places p (s + 1) ≡ later (places p s)
+later_up p s h = later_from p s (s + 1) (sym (mod-eq_of_lt h))
+
+pub later_round : (p s : ℕ) → s < p → p ≤ s + 1 → places p 0 ≡ later (places p s)
+later_round p s h k = later_from p s 0 (wraps p s h k)
 
 -- The row that starts at place 0.
 pub around_start : (f : ℕ → ℕ) (p : ℕ) → ◌≡◌ {A = ℕ → ℕ} (λ k. f ((0 + k) % p)) (λ k. f (k % p))

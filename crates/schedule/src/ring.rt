@@ -27,8 +27,8 @@ impl Ring {
         self.len
     }
 
-    // The place, and one place on.
-    #[tactic(auto, using(crate::specs::Rings::stays, crate::specs::Rings::later_from))]
+    // The place, and one place on. A branch: with a division in every slot an idle run took a tenth longer.
+    #[tactic(auto, using(crate::specs::Rings::stays, crate::specs::Rings::later_up, crate::specs::Rings::later_round))]
     pub(crate) fn next(&mut self) -> usize
         ensures first { result ≡ places self.old.len self.old.place 0 }
         ensures value { result ≡ self.old.place }
@@ -37,7 +37,7 @@ impl Ring {
         ensures len { self.new.len ≡ self.old.len }
     {
         let place = self.place;
-        self.place = (place + 1) % self.len;
+        self.place = if place + 1 < self.len { place + 1 } else { 0 };
         place
     }
 }
