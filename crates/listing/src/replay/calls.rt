@@ -81,7 +81,8 @@ impl<'a, S: Schedule, M: LineMemory> Replay<'a, S, M> {
 
     // All that is still to print, added to the text.
     pub fn finish(&mut self, alloc: Global, out: &mut String) -> Result<(), AllocError>
-        ensures { OnOk result (string_bytes out.new ≡ string_bytes out.old ++ coming S.Schedule M.LineMemory self.old) }
+        ensures text { OnOk result (string_bytes out.new ≡ string_bytes out.old ++ coming S.Schedule M.LineMemory self.old) }
+        ensures over { OnOk result (coming S.Schedule M.LineMemory self.new ≡ []) }
     {
         while self.step(alloc, out)? {}
         Ok(())

@@ -22,5 +22,5 @@ returns c =
     let zeros = begun_zeros s.lines (start_of s.kind s.lines) (memory_words memory) (memory_size memory) (bus_owners bus) (bus_count bus) (bus_span bus) c.memory.ensures.words c.memory.ensures.size in
     let stands = zeros ∙ (λ i. begun s.lines (bus_count (c.schedule.ensures i)) (bus_span (c.schedule.ensures i)) (bus_owners (c.schedule.ensures i))) in
     let rest = c.new-replay.ensures.lists begins.1 ∙ ap (λ x. listed s.line x (pieces 10 (drop s.used trace))) stands ∙ sym begins.2 in
-    let text = c.in_ok-finish.ensures ∙ ap (λ x. string_bytes c.read.new.out ++ x) rest ∙ ap (λ t. t ++ listing trace) (begins.0 ∙ c.new-text.ensures.bytes) in
+    let text = c.in_ok-finish.ensures.text ∙ ap (λ x. string_bytes c.read.new.out ++ x) rest ∙ ap (λ t. t ++ listing trace) (begins.0 ∙ c.new-text.ensures.bytes) in
     record { text = text; law = stays trace (string_bytes c.finish.new.out) text }
