@@ -1,3 +1,4 @@
 mod Replacing
 mod FlatWrites
 mod WindowWrites
+pub mod Around
