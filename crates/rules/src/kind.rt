@@ -16,7 +16,15 @@ pub enum Access {
     Store,
 }
 
-// What a request asks for, without the word.
+impl Kind {
+    // What it asks for, without the word.
+    pub fn access(self) -> Access
+        ensures { result ≡ access_of self }
+    {
+        Access::from(self)
+    }
+}
+
 impl From<Kind> for Access {
     ghost from_gives = { λ k r. r ≡ access_of k };
 
