@@ -15,7 +15,7 @@ pub(crate) fn snoop(boards: &mut [Board], sender: BoardIndex, line: LineIndex, e
     ensures { boards_of boards.new ≡ each (length boards.old) (but_for sender.at (moves line.at event)) (boards_of boards.old) }
 {
     for (number, board) in boards.iter_mut().enumerate() {
-        if number != sender.at {
+        if number != sender.at as usize {
             board.take(line, event);
         }
     }

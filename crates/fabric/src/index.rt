@@ -1,9 +1,9 @@
-// A number that is known to be below a bound.
+// A number that is known to be below a bound. A byte, so that the rows and lists of a fabric stay small.
 ghost use Rattle.std.specs.Prelude.{◌<◌};
 
 #[derive(Clone, Copy, PartialEq, Eq, Debug)]
 pub struct Index<const N: usize> {
-    pub(crate) at: usize,
+    pub(crate) at: u8,
     ghost low: { at < N },
 }
 

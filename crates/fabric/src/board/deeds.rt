@@ -80,7 +80,9 @@ impl Board {
     pub(crate) fn age(&mut self)
         ensures { board_of self.new ≡ ages (board_of self.old) }
     {
-        if let Some(request) = self.request.filter(|request| !request.is_served()) {
+        if let Some(request) = self.request
+            && !request.is_served()
+        {
             self.request = Some(Request {
                 waited: request.waited.saturating_add(1),
                 ..request

@@ -26,21 +26,21 @@ impl Board {
     pub(crate) fn state_at(&self, line: LineIndex) -> State
         ensures { result ≡ (board_of self.now).state line.at }
     {
-        self.lines[line.at].state
+        self.lines[line.at as usize].state
     }
 
     #[tactic(auto, unfolding(crate::specs::Boards::words_of))]
     pub(crate) fn word_at(&self, line: LineIndex) -> u64
         ensures { result ≡ (board_of self.now).word line.at }
     {
-        self.lines[line.at].word
+        self.lines[line.at as usize].word
     }
 
     #[tactic(auto, using(crate::proofs::Tables::set_record_lem))]
     fn set_record(&mut self, line: LineIndex, new: LineRecord)
         ensures { board_of self.new ≡ recorded line.at new.state new.word (board_of self.old) }
     {
-        self.lines[line.at] = new;
+        self.lines[line.at as usize] = new;
     }
 
     // A store that hits.
@@ -48,7 +48,7 @@ impl Board {
     pub(crate) fn store(&mut self, line: LineIndex, word: u64)
         ensures { board_of self.new ≡ stored line.at word (board_of self.old) }
     {
-        self.lines[line.at].word = word;
+        self.lines[line.at as usize].word = word;
     }
 
     // An event, with the word that the copy then has. A write-back that begins goes to the end of the list.

@@ -16,7 +16,7 @@ impl Request {
     pub fn line(&self) -> usize
         ensures { line_in (place_of (Some self.now)) ≡ Some result }
     {
-        self.line.at
+        self.line.at as usize
     }
 
     pub fn is_sent(&self) -> bool

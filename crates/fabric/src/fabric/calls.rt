@@ -109,12 +109,12 @@ impl<S: Schedule, M: LineMemory> Fabric<S, M> {
         let owner = self.schedule.next_owner();
         let did = self.core.slot(Turn {
             count,
-            owner: Index { at: owner },
+            owner: Index { at: owner as u8 },
         });
         SlotReport {
             owner,
             deed: did.deed,
-            line: did.line.map(|line| line.at),
+            line: did.line.map(|line| line.at as usize),
         }
     }
 }

@@ -15,11 +15,12 @@ use schedule::Schedule;
 
 // The index of a number that is below the limit, or else the refusal.
 fn below<const N: usize>(number: usize, limit: usize, refusal: Refusal) -> Result<Index<N>, Refusal>
-    requires { limit ≤ N }
+    requires limit { limit ≤ N }
+    requires byte { N ≤ 256 }
     ensures { Found number limit refusal result }
 {
     if number < limit {
-        Ok(Index { at: number })
+        Ok(Index { at: number as u8 })
     } else {
         Err(refusal)
     }

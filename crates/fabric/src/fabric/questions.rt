@@ -56,7 +56,7 @@ impl<S: Schedule, M: LineMemory> Fabric<S, M> {
         ensures { result ≡ of_board (world S.Schedule M.LineMemory self.now) board (λ x. x.mark) }
     {
         let board = self.find_board(board)?;
-        Ok(self.core.board(board).marked.map(|line| line.at))
+        Ok(self.core.board(board).marked.map(|line| line.at as usize))
     }
 
     pub fn last_deed(&self, board: usize) -> Result<LastDeed, Refusal>

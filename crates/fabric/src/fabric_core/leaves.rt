@@ -17,7 +17,7 @@ impl<M: LineMemory> Core<M> {
     pub(crate) fn board(&self, board: BoardIndex) -> &Board
         ensures { board_of result.now ≡ board_at (view M.LineMemory self.now) board.at }
     {
-        &self.boards[board.at]
+        &self.boards[board.at as usize]
     }
 
     #[tactic(auto, using(crate::proofs::Views::put_front), unfolding(rules::specs::Cells::snoops, crate::specs::Views::view))]
@@ -38,28 +38,28 @@ impl<M: LineMemory> Core<M> {
     pub(crate) fn join(&mut self, line: LineIndex, board: BoardIndex)
         ensures { view M.LineMemory self.new ≡ joins line.at board.at (view M.LineMemory self.old) }
     {
-        self.lines[line.at].row.push(board);
+        self.lines[line.at as usize].row.push(board);
     }
 
     #[tactic(auto, using(crate::proofs::Views::put_row, crate::proofs::Views::row_is))]
     pub(crate) fn leave(&mut self, line: LineIndex)
         ensures { view M.LineMemory self.new ≡ leaves line.at (view M.LineMemory self.old) }
     {
-        let _ = self.lines[line.at].row.pop();
+        let _ = self.lines[line.at as usize].row.pop();
     }
 
     #[tactic(auto, using(crate::proofs::Views::put_word))]
     pub(crate) fn write(&mut self, line: LineIndex, word: u64)
         ensures { view M.LineMemory self.new ≡ with_word line.at word (view M.LineMemory self.old) }
     {
-        self.memory.write(line.at, word);
+        self.memory.write(line.at as usize, word);
     }
 
     #[tactic(auto, using(crate::proofs::Views::words_are))]
     pub(crate) fn read(&self, line: LineIndex) -> u64
         ensures { result ≡ word_at (view M.LineMemory self.now) line.at }
     {
-        self.memory.read(line.at)
+        self.memory.read(line.at as usize)
     }
 
     #[tactic(auto, using(crate::proofs::Views::size_is))]
@@ -74,14 +74,14 @@ impl<M: LineMemory> Core<M> {
     pub(crate) fn is_first(&self, board: BoardIndex, line: LineIndex) -> bool
         ensures { result ≡ is_first board.at (row_at (view M.LineMemory self.now) line.at) }
     {
-        self.lines[line.at].row.is_first(board)
+        self.lines[line.at as usize].row.is_first(board)
     }
 
     #[tactic(auto, using(crate::proofs::Views::row_is))]
     pub(crate) fn is_row_empty(&self, line: LineIndex) -> bool
         ensures { result ≡ is_empty (row_at (view M.LineMemory self.now) line.at) }
     {
-        self.lines[line.at].row.is_empty()
+        self.lines[line.at as usize].row.is_empty()
     }
 
     pub(crate) fn is_held(&self, turn: Turn, line: LineIndex) -> bool
@@ -94,14 +94,14 @@ impl<M: LineMemory> Core<M> {
     pub(crate) fn key(&self, line: LineIndex) -> u16
         ensures { result ≡ key_at (view M.LineMemory self.now) line.at }
     {
-        self.lines[line.at].key
+        self.lines[line.at as usize].key
     }
 
     #[tactic(auto, using(crate::proofs::Views::put_key))]
     pub(crate) fn set_key(&mut self, line: LineIndex, key: u16)
         ensures { view M.LineMemory self.new ≡ with_key line.at key (view M.LineMemory self.old) }
     {
-        self.lines[line.at].key = key;
+        self.lines[line.at as usize].key = key;
     }
 
     // The board at a place of a row.
@@ -109,6 +109,6 @@ impl<M: LineMemory> Core<M> {
     pub(crate) fn waiting(&self, line: LineIndex, at: usize) -> Option<usize>
         ensures { result ≡ place (row_at (view M.LineMemory self.now) line.at) at }
     {
-        self.lines[line.at].row.get(at)
+        self.lines[line.at as usize].row.get(at)
     }
 }

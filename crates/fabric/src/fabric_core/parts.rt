@@ -18,49 +18,49 @@ impl<M: LineMemory> Core<M> {
     pub(crate) fn post_at(&mut self, board: BoardIndex, line: LineIndex, kind: Kind)
         ensures { view M.LineMemory self.new ≡ with_board board.at (posts line.at kind (board_at (view M.LineMemory self.old) board.at)) (view M.LineMemory self.old) }
     {
-        self.boards[board.at].post(line, kind);
+        self.boards[board.at as usize].post(line, kind);
     }
 
     pub(crate) fn store_at(&mut self, board: BoardIndex, line: LineIndex, word: u64)
         ensures { view M.LineMemory self.new ≡ with_board board.at (stored line.at word (board_at (view M.LineMemory self.old) board.at)) (view M.LineMemory self.old) }
     {
-        self.boards[board.at].store(line, word);
+        self.boards[board.at as usize].store(line, word);
     }
 
     pub(crate) fn replace_at(&mut self, board: BoardIndex, line: LineIndex)
         ensures { view M.LineMemory self.new ≡ with_board board.at (replaces line.at (board_at (view M.LineMemory self.old) board.at)) (view M.LineMemory self.old) }
     {
-        self.boards[board.at].replace(line);
+        self.boards[board.at as usize].replace(line);
     }
 
     pub(crate) fn free_at(&mut self, board: BoardIndex)
         ensures { view M.LineMemory self.new ≡ with_board board.at (placed free (board_at (view M.LineMemory self.old) board.at)) (view M.LineMemory self.old) }
     {
-        self.boards[board.at].clear();
+        self.boards[board.at as usize].clear();
     }
 
     pub(crate) fn send_at(&mut self, board: BoardIndex, event: Event, request: Request)
         ensures { view M.LineMemory self.new ≡ with_board board.at (sends event request.line.at request.kind request.waited (board_at (view M.LineMemory self.old) board.at)) (view M.LineMemory self.old) }
     {
-        self.boards[board.at].send(event, request);
+        self.boards[board.at as usize].send(event, request);
     }
 
     pub(crate) fn get_at(&mut self, board: BoardIndex, request: Request, word: u64)
         ensures { view M.LineMemory self.new ≡ with_board board.at (gets request.line.at request.kind request.waited word (board_at (view M.LineMemory self.old) board.at)) (view M.LineMemory self.old) }
     {
-        self.boards[board.at].get(request, word);
+        self.boards[board.at as usize].get(request, word);
     }
 
     pub(crate) fn lift_at(&mut self, board: BoardIndex, request: Request, word: u64)
         ensures { view M.LineMemory self.new ≡ with_board board.at (lifts request.line.at word request.waited (board_at (view M.LineMemory self.old) board.at)) (view M.LineMemory self.old) }
     {
-        self.boards[board.at].lift(request, word);
+        self.boards[board.at as usize].lift(request, word);
     }
 
     pub(crate) fn give_at(&mut self, board: BoardIndex) -> Option<(LineIndex, u64)>
         ensures value { given_at result ≡ given (first_of (board_at (view M.LineMemory self.old) board.at).list) (board_at (view M.LineMemory self.old) board.at) }
         ensures after { view M.LineMemory self.new ≡ gave_at board.at (first_of (board_at (view M.LineMemory self.old) board.at).list) (view M.LineMemory self.old) }
     {
-        self.boards[board.at].give()
+        self.boards[board.at as usize].give()
     }
 }

@@ -64,7 +64,7 @@ impl<const N: usize> Queue<N> {
     {
         // Not by the slice's own `get`: with it the proof did not close.
         if at < self.len {
-            Some(self.items[at].at)
+            Some(self.items[at].at as usize)
         } else {
             None
         }
