@@ -1,9 +1,9 @@
 -- A loop over the boards, as one function of their meaning.
-use Rattle.std.proofs.Common.{◌≡◌, ℕ, zero, suc, ◌+◌, ◌<◌, ◌≤◌, Bool, true, false, ◌||◌, eqb, ltb, ◌≢◌, List, [], ◌∷◌, ◌++◌, length, map, get_or, take, drop, refl, sym, ap, ◌∙◌, inl, inr, arith}
+use Rattle.std.proofs.Common.{◌≡◌, ℕ, zero, suc, ◌+◌, ◌<◌, ◌≤◌, Bool, true, false, ◌||◌, eqb, ltb, ◌≢◌, List, [], ◌∷◌, ◌++◌, length, map, get_or, take, drop, refl, sym, ap, ◌∙◌, inl, inr, add-one, arith}
 use Rattle.std.specs.List.{list_any}
 use mathlib.Core.Path.{fun_ext}
 use Rattle.std.proofs.lemmas.List.{length-take-le}
-use Rattle.std.proofs.lemmas.Bool.{cases_eq, cases_lt, cond-true, cond-false, lt-ltb, le-ltb, eq-eqb, ne_eqb}
+use Rattle.std.proofs.lemmas.Bool.{cases_eq, cases_lt, cond-true, cond-false, lt-ltb, le-ltb, eq-eqb, ne_eqb, or_from, or_left, or_right}
 use Rattle.rules.specs.Boards.{Board, blank, change}
 use Rattle.rules.specs.Cells.{below, but_for, each}
 use Rattle.fabric.specs.declared.board.Board as fabric
@@ -74,3 +74,17 @@ pub below_front : (test : Board → Bool) (n : ℕ) (bs : List fabric.Board) →
 below_front test n bs long =
     ap (λ k. below k (λ c. test (boards_of (take n bs) c))) (length-take-le n bs long)
     ∙ below_same n (λ c. test (boards_of (take n bs) c)) (λ c. test (boards_of bs c)) (λ c h. ap test (front_take n bs c h))
+
+-- A test that passes below n, and one that has not yet.
+pub below_found : (n i : ℕ) (test : ℕ → Bool) → i < n → test i ≡ true → below n test ≡ true
+below_found zero i test h t = absurd (omega arith)
+below_found (suc n) i test h t = elim (cases_eq i n) [
+  | inl e ↦ or_left (test n) (below n test) (ap test (sym e) ∙ t)
+  | inr ne ↦ or_right (test n) (below n test) (below_found n i test (omega arith) t)
+]
+
+pub below_more : (i : ℕ) (test : ℕ → Bool) → below i test ≡ false → test i ≡ false → below (i + 1) test ≡ false
+below_more i test none t = ap (λ n. below n test) (add-one i) ∙ or_from (test i) (below i test) t none
+
+pub below_all : (i n : ℕ) (test : ℕ → Bool) → n ≤ i → i ≤ n → below i test ≡ false → false ≡ below n test
+below_all i n test a b none = let e : n ≡ i = omega arith in sym (ap (λ k. below k test) e ∙ none)

@@ -19,6 +19,18 @@ use Rattle.fabric.proofs.Loops.{each_front}
 use Rattle.fabric.proofs.Tables.{board_at_lem, boards_set, key_at_lem, keys_kept, keys_put, row_at_lem, rows_kept, rows_put}
 
 module _ {M : Type 0} (m : memory.Ghosts M) (f : Core M) where
+  pub boards_are : board_at (view m f) ≡ boards_of f.boards
+  unfolding board_at view
+  boards_are = refl
+
+  pub rows_are : row_at (view m f) ≡ rows_of f.lines
+  unfolding row_at view
+  rows_are = refl
+
+  pub keys_are : key_at (view m f) ≡ keys_of f.lines
+  unfolding key_at view
+  keys_are = refl
+
   pub words_are : word_at (view m f) ≡ m.words f.memory
   unfolding word_at view
   words_are = refl
