@@ -4,7 +4,7 @@ use Rattle.trace.specs.declared.fault.LineFault.{LineFault}
 use Rattle.trace.specs.declared.fault.LineFault.TheVariants as fault
 use Rattle.trace.specs.declared.command.Command.{Command}
 use Rattle.trace.specs.declared.command.Command.TheVariants as command
-use Rattle.trace.specs.declared.opening.FabricLine.{FabricLine}
+use Rattle.trace.specs.declared.command.FabricLine.{FabricLine}
 use Rattle.trace.specs.declared.command.Parts.{Parts}
 use Rattle.trace.specs.declared.word.Field.{Field}
 use Rattle.trace.specs.declared.word.MemoryKind.{MemoryKind}

@@ -1,14 +1,21 @@
 // A line of a trace: letter, space and the words of the rest.
-ghost use Rattle.std.specs.Prelude.{◌≡◌, vec_items};
+ghost use Rattle.std.specs.Prelude.{◌≡◌, ◌≤◌, vec_items, IfOk};
 ghost use Rattle.std.specs.Option as options;
 ghost use Rattle.std.specs.Result.{result_map_both};
 ghost use Rattle.trace.specs.Commands.{apart, boards_of, call_order, called, collect_of, fabric_letter, fabric_of, fabric_order, guard_of, list_order, meaning, parts_of, place_of, set_up, slots_of, store_of};
 ghost use Rattle.trace.specs.Faults.{Told};
 
 use crate::fault::{LineFault, TraceFault};
-pub use crate::opening::FabricLine;
-use crate::word::{Field, Word, all_numbers, read_fields, read_words};
+use crate::word::{Field, MemoryKind, Word, all_numbers, read_fields, read_words};
 use std::alloc::Global;
+
+// What the fabric is made of.
+#[derive(Clone, Copy)]
+pub struct FabricLine {
+    pub boards: u8,
+    pub lines: u8,
+    pub kind: MemoryKind,
+}
 
 // What a line after the opening ones asks for.
 #[derive(Clone, Copy)]
@@ -69,7 +76,8 @@ const KEY: Field = Field {
 const COUNT: Field = Field { low: 1, high: 999 };
 
 fn fabric(words: &[Word]) -> Result<FabricLine, LineFault>
-    ensures { result_map_both set_up (λ e. e) result ≡ fabric_of words.now }
+    ensures value { result_map_both set_up (λ e. e) result ≡ fabric_of words.now }
+    ensures few { IfOk result (λ f. f.lines ≤ 64) }
 {
     let [boards, lines, last] = words else {
         return Err(LineFault::WordCount);
@@ -171,7 +179,8 @@ fn take_apart(alloc: Global, line: &[u8]) -> Result<Parts, TraceFault>
 
 impl Parts {
     fn fabric(&self) -> Result<FabricLine, LineFault>
-        ensures { result_map_both set_up (λ e. e) result ≡ fabric_letter self.now.letter (vec_items self.now.words) }
+        ensures value { result_map_both set_up (λ e. e) result ≡ fabric_letter self.now.letter (vec_items self.now.words) }
+        ensures few { IfOk result (λ f. f.lines ≤ 64) }
     {
         match self.letter {
             b'F' => fabric(&self.words),
@@ -198,7 +207,8 @@ impl Parts {
 
 // The first line of a trace.
 pub fn read_fabric(alloc: Global, line: &[u8]) -> Result<FabricLine, TraceFault>
-    ensures { Told set_up result (fabric_order line.now) }
+    ensures value { Told set_up result (fabric_order line.now) }
+    ensures few { IfOk result (λ f. f.lines ≤ 64) }
 {
     Ok(take_apart(alloc, line)?.fabric()?)
 }
