@@ -23,6 +23,8 @@ fn without_leading_zero(s: &[u8]) -> Result<u64, NumberFault>
 {
     match s {
         [] => Err(NumberFault::NotANumber),
+        // Most words are one digit, which needs no parse.
+        [digit @ b'0'..=b'9'] => Ok((*digit - b'0') as u64),
         [b'0', _, ..] => Err(NumberFault::NotANumber),
         _ => read_digits(s),
     }
@@ -32,11 +34,11 @@ fn read_digits(s: &[u8]) -> Result<u64, NumberFault>
     requires { 0 < length s.now }
     ensures { result ≡ read_as (digits_on 0 s.now) }
 {
-    let Ok(text) = str::from_utf8(s) else {
-        return Err(NumberFault::NotANumber);
-    };
     if !s.iter().all(u8::is_ascii_digit) {
         return Err(NumberFault::NotANumber);
     }
+    let Ok(text) = str::from_utf8(s) else {
+        return Err(NumberFault::NotANumber);
+    };
     u64::from_str_radix(text, 10).map_err(|_| NumberFault::TooLarge)
 }
