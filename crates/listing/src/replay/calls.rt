@@ -1,5 +1,5 @@
 // The calls of a replay.
-ghost use Rattle.std.specs.Prelude.{◌≡◌, ◌<◌, ◌≤◌, true, false, [], ◌++◌, length, drop, Some, None, IfOk, string_bytes, OnOk};
+ghost use Rattle.std.specs.Prelude.{◌≡◌, ◌<◌, ◌≤◌, true, false, [], ◌++◌, length, drop, Some, None, IfOk, string_bytes, OnOk, OnErr};
 ghost use Rattle.std.specs.Option.{option_map, option_map_or};
 ghost use Rattle.trace.specs.Pieces.{pieces};
 ghost use Rattle.listing.specs.Beginnings.{stand_from};
@@ -51,12 +51,13 @@ impl<'a, S: Schedule, M: LineMemory> Replay<'a, S, M> {
         }
     }
 
-    // Adds to the text what the next line of the trace prints; true where there may be more.
+    // Adds to the text what the next line of the trace prints; true where there may be more. After want of memory there is nothing more to print.
     pub fn step(&mut self, alloc: Global, out: &mut String) -> Result<bool, AllocError>
         ensures text { OnOk result (string_bytes out.new ≡ string_bytes out.old ++ piece S.Schedule M.LineMemory self.old) }
         ensures rest { OnOk result (coming S.Schedule M.LineMemory self.old ≡ piece S.Schedule M.LineMemory self.old ++ coming S.Schedule M.LineMemory self.new) }
         ensures over { IfOk result (λ more. (more ≡ false → coming S.Schedule M.LineMemory self.new ≡ [])) }
         ensures less { IfOk result (λ more. (more ≡ true → unread self.new < unread self.old)) }
+        ensures stops { OnErr result (coming S.Schedule M.LineMemory self.new ≡ []) }
     {
         let Some(rest) = self.rest else {
             return Ok(false);
@@ -83,6 +84,7 @@ impl<'a, S: Schedule, M: LineMemory> Replay<'a, S, M> {
     pub fn finish(&mut self, alloc: Global, out: &mut String) -> Result<(), AllocError>
         ensures text { OnOk result (string_bytes out.new ≡ string_bytes out.old ++ coming S.Schedule M.LineMemory self.old) }
         ensures over { OnOk result (coming S.Schedule M.LineMemory self.new ≡ []) }
+        ensures stops { OnErr result (coming S.Schedule M.LineMemory self.new ≡ []) }
     {
         while self.step(alloc, out)? {}
         Ok(())

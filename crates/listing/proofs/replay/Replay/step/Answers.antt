@@ -16,6 +16,7 @@ returns-in_default-after g c =
       rest = rw (c.in-Some.is, c.in_default-after.is) (last_rest r.line s rest line c.cut.ensures.first none);
       over = search rules;
       less = search rules;
+      stops = search rules;
     }
 
 pub returns-in-Ok : goal.returns-in-Ok
@@ -30,6 +31,7 @@ returns-in-Ok g c =
       rest = rw (c.in-Some.is, c.in-Some-after.is) step.1;
       over = search rules;
       less = search rules;
+      stops = search rules;
     }
 
 pub returns-in_ok-stop-in-Err : goal.returns-in_ok-stop-in-Err
@@ -44,4 +46,5 @@ returns-in_ok-stop-in-Err g c =
       rest = rw c.in-Some.is step.1;
       over = search rules;
       less = search rules;
+      stops = search rules;
     }
