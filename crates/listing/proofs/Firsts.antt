@@ -1,5 +1,5 @@
 -- The first lines of a trace, one cut at a time.
-use Rattle.std.proofs.Common.{Bor, ◌≡◌, ℕ, ◌+◌, ◌≤◌, List, [], ◌∷◌, ◌++◌, length, drop, Some, None, Ok, Err, Option, Result, sym, ap, ◌∙◌, append_assoc, length-append}
+use Rattle.std.proofs.Common.{Bor, ◌≡◌, ℕ, ◌+◌, ◌≤◌, List, [], ◌∷◌, ◌++◌, length, drop, Some, None, Ok, Err, Option, Result, sym, ap, ◌∙◌, append_assoc, arith, length-append}
 use Rattle.std.specs.Option.{option_map}
 use Rattle.std.proofs.lemmas.List.{drop_at, drop-drop}
 use Rattle.std.proofs.lemmas.Bool.{cond-false, le-ltb}
@@ -65,6 +65,11 @@ pub drop_after : (s line more : List ℕ) → s ≡ line ++ 10 ∷ more → drop
 drop_after s line more e =
     let long : length (line ++ 10 ∷ []) ≡ length line + 1 = length-append line (10 ∷ []) in
     ap (drop (length line + 1)) (e ∙ sym (append_assoc line (10 ∷ []) more)) ∙ drop_at (line ++ 10 ∷ []) more (length line + 1) long
+
+pub length_after : (s line more : List ℕ) → s ≡ line ++ 10 ∷ more → length s ≡ length line + 1 + length more
+length_after s line more e =
+    let long : length (line ++ 10 ∷ more) ≡ length line + length (10 ∷ more) = length-append line (10 ∷ more) in
+    ap length e ∙ omega arith
 
 module _ (n l : ℕ) (rest line more : List ℕ) (is : line ≡ before 10 rest) (some : after 10 rest ≡ Some more) where
   second_at : (b : ℕ) → b ≡ n → (e : Result (Option (List ℕ)) LineFault) → list_settled b (list_order line) ≡ e → from_second n l (pieces 10 rest) ≡ second n l e (pieces 10 rest) (pieces 10 more)
