@@ -1,10 +1,26 @@
 // A trace listed in one call.
-ghost use Rattle.std.specs.Prelude.{◌≡◌, IfOk, string_bytes};
-ghost use Rattle.listing.specs.Listing.{Stays, listing};
+ghost use Rattle.std.specs.Prelude.{◌≡◌, ◌≤◌, ◌++◌, length, drop, IfOk, string_bytes, OnOk};
+ghost use Rattle.trace.specs.Pieces.{pieces};
+ghost use Rattle.listing.specs.Beginnings.{standing};
+ghost use Rattle.listing.specs.Listing.{Stays, listed, listing};
 
 use crate::replay::Replay;
 use crate::setup::Setup;
 use std::alloc::{AllocError, Global};
+
+// What follows the first lines. In a function of its own, since the room for a replay is cleared where it begins.
+fn list_setup(
+    alloc: Global,
+    trace: &[u8],
+    setup: &Setup,
+    out: &mut String,
+) -> Result<(), AllocError>
+    ensures { OnOk result ((length trace.now ≤ 32768 → string_bytes out.new ≡ string_bytes out.old ++ listed setup.now.line (standing setup.now) (pieces 10 (drop setup.now.used trace.now)))) }
+{
+    let mut words = [0; 64];
+    let mut replay = Replay::new(trace, setup, setup.schedule(), setup.memory(&mut words));
+    replay.finish(alloc, out)
+}
 
 // The whole listing of a trace.
 pub fn list_trace(alloc: Global, trace: &[u8]) -> Result<String, AllocError>
@@ -15,8 +31,6 @@ pub fn list_trace(alloc: Global, trace: &[u8]) -> Result<String, AllocError>
     let Some(setup) = Setup::read(alloc, trace, &mut text)? else {
         return Ok(text);
     };
-    let mut words = [0; 64];
-    let mut replay = Replay::new(trace, &setup, setup.schedule(), setup.memory(&mut words));
-    replay.finish(alloc, &mut text)?;
+    list_setup(alloc, trace, &setup, &mut text)?;
     Ok(text)
 }

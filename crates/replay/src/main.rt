@@ -13,17 +13,12 @@ const ENOUGH: u64 = MAX_TRACE as u64 + 1;
 // Text is written once there is this much of it.
 const CHUNK: usize = 16384;
 
-fn main(rt: HostRuntime) -> io::Result<()> {
+// What follows the first lines. In a function of its own, since the room for a replay is cleared where it begins.
+fn play(rt: HostRuntime, trace: &[u8], setup: &Setup) -> io::Result<()> {
     let alloc = rt.alloc();
-    let mut trace = Vec::new(alloc);
-    rt.stdin().take(ENOUGH).read_to_end(&mut trace)?;
-    let trace = trace.as_slice();
     let mut text = String::new(alloc);
-    let Some(setup) = Setup::read(alloc, trace, &mut text)? else {
-        return rt.write_all(text.as_bytes());
-    };
     let mut words = [0; 64];
-    let mut replay = Replay::new(trace, &setup, setup.schedule(), setup.memory(&mut words));
+    let mut replay = Replay::new(trace, setup, setup.schedule(), setup.memory(&mut words));
     while replay.step(alloc, &mut text)? {
         if text.len() >= CHUNK {
             rt.write_all(text.as_bytes())?;
@@ -31,4 +26,15 @@ fn main(rt: HostRuntime) -> io::Result<()> {
         }
     }
     rt.write_all(text.as_bytes())
+}
+
+fn main(rt: HostRuntime) -> io::Result<()> {
+    let alloc = rt.alloc();
+    let mut trace = Vec::new(alloc);
+    rt.stdin().take(ENOUGH).read_to_end(&mut trace)?;
+    let mut text = String::new(alloc);
+    let Some(setup) = Setup::read(alloc, trace.as_slice(), &mut text)? else {
+        return rt.write_all(text.as_bytes());
+    };
+    play(rt, trace.as_slice(), &setup)
 }
