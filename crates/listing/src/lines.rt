@@ -95,34 +95,35 @@ impl fmt::Display for Line {
     ghost output = { λ l. Some (line_text l) };
 
     fn fmt<W: fmt::Write>(&self, f: &mut fmt::Formatter<W>) -> fmt::Result {
-        match *self {
-            Line::Idle { slot, owner } => writeln!(f, "{slot} {owner} idle -"),
+        // The fields are passed where they lie: a name in a format is a local, and all locals are cleared at entry.
+        match self {
+            Line::Idle { slot, owner } => writeln!(f, "{} {} idle -", *slot, *owner),
             Line::Done {
                 slot,
                 owner,
                 deed,
                 line,
-            } => writeln!(f, "{slot} {owner} {deed} {line}"),
-            Line::Wait { call, board, line } => writeln!(f, "{call} {board} {line} wait"),
+            } => writeln!(f, "{} {} {} {}", *slot, *owner, *deed, *line),
+            Line::Wait { call, board, line } => writeln!(f, "{} {} {} wait", *call, *board, *line),
             Line::Hit {
                 call,
                 board,
                 line,
                 word,
-            } => writeln!(f, "{call} {board} {line} hit {word}"),
-            Line::Replaced { board, line } => writeln!(f, "R {board} {line} ok"),
-            Line::Guarded { line } => writeln!(f, "K {line} ok"),
+            } => writeln!(f, "{} {} {} hit {}", *call, *board, *line, *word),
+            Line::Replaced { board, line } => writeln!(f, "R {} {} ok", *board, *line),
+            Line::Guarded { line } => writeln!(f, "K {} ok", *line),
             Line::Collected {
                 board,
                 word,
                 waited,
-            } => writeln!(f, "C {board} {word} {waited}"),
+            } => writeln!(f, "C {} {} {}", *board, *word, *waited),
             Line::Refused {
                 call,
                 first,
                 refusal,
-            } => writeln!(f, "{call} {first} refused {refusal}"),
-            Line::Fault { line, fault } => writeln!(f, "fault {line} {fault}"),
+            } => writeln!(f, "{} {} refused {}", *call, *first, *refusal),
+            Line::Fault { line, fault } => writeln!(f, "fault {} {}", *line, *fault),
             Line::TooLong => writeln!(f, "fault 0 7"),
         }
     }
