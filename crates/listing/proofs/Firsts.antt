@@ -39,21 +39,25 @@ module _ (input : List ℕ) where
       ap (from_second n l) (cut_more more e)
       ∙ (λ i. second n l (list_settled n (list_order (before 10 input))) (sym (cut_more more e) i) (sym (pieces_cut 10 more) i))
 
+  pub first_last : after 10 input ≡ None → from_first (pieces 10 input) ≡ unopened (before 10 input)
+  first_last e = ap from_first (cut_last e)
+
+  pub first_more : (more : List ℕ) → after 10 input ≡ Some more → from_first (pieces 10 input) ≡ first (settled (fabric_order (before 10 input))) (pieces 10 more)
+  first_more more e = ap from_first (cut_more more e) ∙ ap (first (settled (fabric_order (before 10 input)))) (sym (pieces_cut 10 more))
+
 pub few_first : (s : List ℕ) → length s ≤ 32768 → listing s ≡ from_first (pieces 10 s)
 few_first s h = cond-false _ _ _ (le-ltb 32768 (length s) h)
 
 module _ (trace line : List ℕ) (few : length trace ≤ 32768) (is : line ≡ before 10 trace) where
-  pub first_last : after 10 trace ≡ None → listing trace ≡ unopened line
-  first_last none = few_first trace few ∙ ap from_first (cut_last trace none) ∙ ap unopened (sym is)
+  pub lists_last : after 10 trace ≡ None → listing trace ≡ unopened line
+  lists_last none = few_first trace few ∙ first_last trace none ∙ ap unopened (sym is)
 
   module _ (rest : List ℕ) (some : after 10 trace ≡ Some rest) where
-    pub first_more : listing trace ≡ first (settled (fabric_order line)) (pieces 10 rest)
-    first_more =
-        few_first trace few ∙ ap from_first (cut_more trace rest some)
-        ∙ (λ i. first (settled (fabric_order (sym is i))) (sym (pieces_cut 10 rest) i))
+    pub lists_more : listing trace ≡ first (settled (fabric_order line)) (pieces 10 rest)
+    lists_more = few_first trace few ∙ first_more trace rest some ∙ ap (λ p. first (settled (fabric_order p)) (pieces 10 rest)) (sym is)
 
     pub first_opened : (o : Setup) → settled (fabric_order line) ≡ Ok (setting_of o) → listing trace ≡ from_second (bus_count o.schedule) o.lines (pieces 10 rest)
-    first_opened o told = first_more ∙ ap (λ r. first r (pieces 10 rest)) told
+    first_opened o told = lists_more ∙ ap (λ r. first r (pieces 10 rest)) told
 
 -- A fault of the first line is all there is to list.
 pub first_stopped : {A : Type 0} (f : A → Setting) (e : TraceFault) (r : Result Setting LineFault) (rest : List (List ℕ)) (t t' : List ℕ) → Told f (Err e) r → Stopped e 1 t t' → t' ≡ t ++ first r rest

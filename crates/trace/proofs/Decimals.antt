@@ -96,9 +96,12 @@ read_small (Some m) n e = by (ltb m (2 ^ 64)) e
     by true h = h
     by false h = let z : ◌≡◌ {A = ℕ} 0 1 = cc in absurd (omega arith)
 
+pub read_same : (o : Option ℕ) (n : ℕ) → n < 2 ^ 64 → o ≡ Some n → read_as o ≡ Ok n
+read_same o n small e = ap read_as e ∙ rw (lt-ltb n (2 ^ 64) small) refl
+
 pub reads_decimal : (s : List ℕ) (r : Result ℕ NumberFault) → r ≡ read_as (number s) → ReadsDecimal s (result_ok r)
 reads_decimal s r value =
     record {
-      reads = λ n small e. ap result_ok value ∙ ap (λ o. result_ok (read_as o)) (ap number e ∙ number_reads n small) ∙ rw (lt-ltb n (2 ^ 64) small) refl;
+      reads = λ n small e. ap result_ok value ∙ ap result_ok (read_same (number s) n small (ap number e ∙ number_reads n small));
       writes = λ n small e. number_writes s n small (read_small (number s) n (sym (ap result_ok value) ∙ e));
     }

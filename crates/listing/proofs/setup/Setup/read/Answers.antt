@@ -4,7 +4,7 @@ use Rattle.trace.specs.Commands.{fabric_order}
 use Rattle.trace.specs.Pieces.{pieces, rejoined}
 use Rattle.listing.specs.Listing.{settled, unopened}
 use Rattle.listing.specs.Setups.{setting_of}
-use Rattle.listing.proofs.Firsts.{kept, begun_from, drop_after, first_last, first_more, first_opened, first_stopped, second_stopped}
+use Rattle.listing.proofs.Firsts.{kept, begun_from, drop_after, first_opened, first_stopped, lists_last, lists_more, second_stopped}
 use Rattle.listing.proofs.setup.Setup.read.Goals as goal
 
 pub returns-in_default : goal.returns-in_default
@@ -13,7 +13,7 @@ returns-in_default c =
     let line = c.cut.result.0.now in
     let none = kept c.cut.ensures.rest c.in_default.is in
     let told : string_bytes c.write-in_default.new.self ≡ t ++ unopened line = search rules in
-    told ∙ sym (ap (λ x. t ++ x) (first_last c.args.trace.now line c.if-trace-gt-MAX_TRACE.false c.cut.ensures.first none))
+    told ∙ sym (ap (λ x. t ++ x) (lists_last c.args.trace.now line c.if-trace-gt-MAX_TRACE.false c.cut.ensures.first none))
 
 pub returns-in-Err : goal.returns-in-Err
 returns-in-Err c =
@@ -22,7 +22,7 @@ returns-in-Err c =
     let t = string_bytes c.args.out.now in
     let some = kept c.cut.ensures.rest c.in-Some.is in
     first_stopped setting_of c.in-Err.fault (settled (fabric_order line)) (pieces 10 rest) t (string_bytes c.stop.new.out) c.in-Err.ensures.value c.in_ok-stop-in-Err.ensures
-    ∙ sym (ap (λ x. t ++ x) (first_more c.args.trace.now line c.if-trace-gt-MAX_TRACE.false c.cut.ensures.first rest some))
+    ∙ sym (ap (λ x. t ++ x) (lists_more c.args.trace.now line c.if-trace-gt-MAX_TRACE.false c.cut.ensures.first rest some))
 
 pub returns-in-Ok-second : goal.returns-in-Ok-second
 returns-in-Ok-second c =
