@@ -66,15 +66,12 @@ lines_stay lines more =
     pieces_join 10 lines more refl ∙ (λ i. pieces_cut 10 lines i ++ pieces_cut 10 more i) in
     (w.0, ap from_first long ∙ w.1 ∙ ap (λ l. from_first l ++ w.0) (sym short))
 
-few_listed : (s : List ℕ) → length s ≤ 32768 → listing s ≡ from_first (pieces 10 s)
-few_listed = few_first
-
 pub stays : (trace text : List ℕ) → text ≡ listing trace → Stays trace text
 stays trace text e lines more is few =
     let w = lines_stay lines more in
     let joined : trace ++ more ≡ lines ++ 10 ∷ more = ap (λ t. t ++ more) is ∙ append_assoc lines (10 ∷ []) more in
     let small : length trace ≤ 32768 = omega (arith, length-append trace more) in (
       w.0,
-      few_listed (trace ++ more) few ∙ ap (λ t. from_first (pieces 10 t)) joined ∙ w.1
-          ∙ ap (λ t. from_first (pieces 10 t) ++ w.0) (sym is) ∙ ap (λ t. t ++ w.0) (sym (few_listed trace small)) ∙ ap (λ t. t ++ w.0) (sym e),
+      few_first (trace ++ more) few ∙ ap (λ t. from_first (pieces 10 t)) joined ∙ w.1
+          ∙ ap (λ t. from_first (pieces 10 t) ++ w.0) (sym is) ∙ ap (λ t. t ++ w.0) (sym (few_first trace small)) ∙ ap (λ t. t ++ w.0) (sym e),
     )
